@@ -1,5 +1,5 @@
 -- Letters that are read up to an index, and the effect of the next letter.
-use Rattle.explain.proofs.Words.{◌≡◌, ◌≢◌, ℕ, ◌+◌, ◌-◌, ◌*◌, ◌<◌, ◌≤◌, Bool, true, false, ◌&&◌, nat_le, List, [], ◌∷◌, ◌++◌, length, Option, Some, None, slice_get, refl, option_map, sym, ◌∙◌, ap, subst, arith, append_assoc, append-nil, length-append, inl, inr, list_all-append, or_left, or_right, le-leb, Name, Item, IsNumber, is_first, is_last, number_from, items_of, before_rest, numbers_from, starts_with_mark, WritesRow, is_first-true, number_of-placed, placed-number_of, first_bounds, last_bounds, is_first-false, is_last-true, WritesRow-read, LetterBreak, LetterFault, marks_in, IsEndOrMark, fault_index, IsAllowedBeginning, IsTooGreat, BeginsWith, Breaks, IsLetterBreak, zeros, IsReadTo}
+use Rattle.explain.proofs.Words.{◌≡◌, ◌≢◌, ℕ, ◌+◌, ◌-◌, ◌*◌, ◌<◌, ◌≤◌, Bool, true, false, ◌&&◌, nat_le, List, [], ◌∷◌, ◌++◌, length, Option, Some, None, slice_get, refl, option_map, sym, ◌∙◌, ap, subst, arith, append_assoc, append-nil, length-append, inl, inr, list_all-append, or_left, or_right, le-leb, Name, Item, IsNumber, is_leading, is_last, number_after, items_of, before_rest, numbers_from, starts_with_mark, WritesRow, is_leading-true, number_of-placed, placed-number_of, first_bounds, last_bounds, is_leading-false, is_last-true, WritesRow-read, LetterBreak, LetterFault, marks_in, IsEndOrMark, fault_index, IsAllowedBeginning, IsTooGreat, BeginsWith, Breaks, IsLetterBreak, zeros, IsReadTo}
 use Rattle.explain.specs.Breaks.{IsNotLetter}
 use Rattle.explain.proofs.LetterNumberLemmas.{at-append, not-empty, marks-zeros, zeros-number, zeros-mark, before-push, over, last-over, zero-or}
 
@@ -145,8 +145,8 @@ module _ (labels : ℕ) (letters : List ℕ) (index limit digits begin : ℕ) (r
         let zs = zeros-number r.numbers (20 * digits + (letter - 64)) (omega (arith, low)) in
         done (20 * digits + (letter - 64)) limit step (r.limit_is ∙ ap (λ z. labels + z) (sym zs)) (let f = r.few in omega (arith, zs, f))
       where
-        first : is_first letter ≡ false
-        first = is_first-false letter high
+        first : is_leading letter ≡ false
+        first = is_leading-false letter high
 
         last : is_last letter ≡ true
         last = is_last-true letter low high
@@ -177,8 +177,8 @@ module _ (labels : ℕ) (letters : List ℕ) (index limit digits begin : ℕ) (r
       starts = r.starts;
       reads = r.reads;
       reads_begun = λ text. ap (numbers_from limit 0) (append_assoc r.begun (letter ∷ []) text) ∙ (r.reads_begun (letter ∷ text) ∙ (first-goes text ∙ ap (λ d. numbers_from limit d text) (sym is)));
-      counts_begun = λ word. ap (number_from 0) (append_assoc r.begun (letter ∷ []) word) ∙ (r.counts_begun (letter ∷ word) ∙ (first-counts word ∙ ap (λ d. number_from d word) (sym is)));
-      firsts = list_all-append is_first r.begun (letter ∷ []) ∙ (ap (λ t. t && (is_first letter && true)) r.firsts ∙ ap (λ t. t && true) first);
+      counts_begun = λ word. ap (number_after 0) (append_assoc r.begun (letter ∷ []) word) ∙ (r.counts_begun (letter ∷ word) ∙ (first-counts word ∙ ap (λ d. number_after d word) (sym is)));
+      firsts = list_all-append is_leading r.begun (letter ∷ []) ∙ (ap (λ t. t && (is_leading letter && true)) r.firsts ∙ ap (λ t. t && true) first);
       zero_digits = λ e. absurd (omega (arith, e, is, low));
       none_begun = λ e. absurd (not-empty r.begun letter e);
       limit_is = r.limit_is;
@@ -187,44 +187,44 @@ module _ (labels : ℕ) (letters : List ℕ) (index limit digits begin : ℕ) (r
       room = λ e. within;
     }
       where
-        first : is_first letter ≡ true
-        first = is_first-true letter low high
+        first : is_leading letter ≡ true
+        first = is_leading-true letter low high
 
         first-goes : (text : List ℕ) → numbers_from limit digits (letter ∷ text) ≡ numbers_from limit (5 * digits + (letter - 84)) text
         first-goes text = rw first refl
 
-        first-counts : (word : Name) → number_from digits (letter ∷ word) ≡ number_from (5 * digits + (letter - 84)) word
+        first-counts : (word : Name) → number_after digits (letter ∷ word) ≡ number_after (5 * digits + (letter - 84)) word
         first-counts word = rw first refl
 
     -- the number of a word that begins so is counted from the letters that are begun
-    counted : (word : Name) (n : ℕ) → IsNumber (r.begun ++ letter ∷ word) n → number_from digits (letter ∷ word) ≡ Some n
+    counted : (word : Name) (n : ℕ) → IsNumber (r.begun ++ letter ∷ word) n → number_after digits (letter ∷ word) ≡ Some n
     counted word n is = sym (r.counts_begun (letter ∷ word)) ∙ number_of-placed (r.begun ++ letter ∷ word) n is
 
     pub word-over : 65 ≤ letter → letter ≤ 84 → limit < 20 * digits + (letter - 64) → BeginsWith (IsTooGreat limit r.begun) r.rest
     word-over low high h =
-        breaks-here (IsTooGreat limit r.begun) (or_right (is_first letter) (is_last letter) (is_last-true letter low high), λ word n is. last-over limit digits letter word n (is_first-false letter high) h (counted word n is))
+        breaks-here (IsTooGreat limit r.begun) (or_right (is_leading letter) (is_last letter) (is_last-true letter low high), λ word n is. last-over limit digits letter word n (is_leading-false letter high) h (counted word n is))
 
     pub begun-over : (digits' : ℕ) → 85 ≤ letter → letter ≤ 89 → digits' ≡ 5 * digits + (letter - 84) → limit ≤ 20 * digits' → BeginsWith (IsTooGreat limit r.begun) r.rest
     begun-over digits' low high is h =
         breaks-here (IsTooGreat limit r.begun) (
-          or_left (is_first letter) (is_last letter) first,
+          or_left (is_leading letter) (is_last letter) first,
           λ word n placed.
               over limit (5 * digits + (letter - 84)) word n (omega (arith, h, is)) (sym (reads_begun word) ∙ counted word n placed),
         )
       where
-        first : is_first letter ≡ true
-        first = is_first-true letter low high
+        first : is_leading letter ≡ true
+        first = is_leading-true letter low high
 
-        reads_begun : (word : Name) → number_from digits (letter ∷ word) ≡ number_from (5 * digits + (letter - 84)) word
+        reads_begun : (word : Name) → number_after digits (letter ∷ word) ≡ number_after (5 * digits + (letter - 84)) word
         reads_begun word = rw first refl
 
     pub other-here : (65 ≤ letter → letter ≤ 84 → ⊥) → (85 ≤ letter → letter ≤ 89 → ⊥) → letter ≢ 90 → BeginsWith IsNotLetter r.rest
     other-here last first mark = breaks-here IsNotLetter (not-first, not-last, mark)
       where
-        not-first : is_first letter ≡ false
-        not-first = by (is_first letter) refl
+        not-first : is_leading letter ≡ false
+        not-first = by (is_leading letter) refl
           where
-            by : (t : Bool) → is_first letter ≡ t → is_first letter ≡ false
+            by : (t : Bool) → is_leading letter ≡ t → is_leading letter ≡ false
             by false e = e
             by true e = let b = first_bounds letter e in absurd (first b.0 b.1)
 

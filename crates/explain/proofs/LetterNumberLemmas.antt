@@ -1,5 +1,5 @@
 -- Numbers of letters, marks among numbers, and letters by their bounds.
-use Rattle.explain.proofs.Words.{◌≡◌, ◌≢◌, ◌⊎◌, ℕ, zero, suc, ◌+◌, ◌-◌, ◌*◌, ◌<◌, ◌≤◌, Bool, true, false, cond, ◌&&◌, nat_lt, List, [], ◌∷◌, ◌++◌, length, Option, Some, None, slice_get, slice_index_or, refl, option_map, sym, ◌∙◌, ap, arith, append_assoc, inl, inr, none-some, same_Some, Name, is_empty, Cite, Recall, is_first, is_last, number_from, items_of, before_rest, last_bounds, marks_in, zeros}
+use Rattle.explain.proofs.Words.{◌≡◌, ◌≢◌, ◌⊎◌, ℕ, zero, suc, ◌+◌, ◌-◌, ◌*◌, ◌<◌, ◌≤◌, Bool, true, false, cond, ◌&&◌, nat_lt, List, [], ◌∷◌, ◌++◌, length, Option, Some, None, slice_get, slice_index_or, refl, option_map, sym, ◌∙◌, ap, arith, append_assoc, inl, inr, none-some, same_Some, Name, is_empty, Cite, Recall, is_leading, is_last, number_after, items_of, before_rest, last_bounds, marks_in, zeros}
 
 -- ---- lists
 
@@ -44,12 +44,12 @@ before-push numbers n (Some more) = ap Some (sym (append_assoc numbers (n ∷ []
 -- ---- numbers above a limit
 
 -- each word that begins so has a number above the limit
-pub over : (limit digits : ℕ) (word : Name) (n : ℕ) → limit ≤ 20 * digits → number_from digits word ≡ Some n → limit < n
+pub over : (limit digits : ℕ) (word : Name) (n : ℕ) → limit ≤ 20 * digits → number_after digits word ≡ Some n → limit < n
 over limit digits [] n h e = absurd (none-some n e)
-over limit digits (letter ∷ word) n h e = by (λ more. over limit (5 * digits + (letter - 84)) word n (omega (arith, h)) more) (is_first letter) (is_last letter) refl (is_empty word) e
+over limit digits (letter ∷ word) n h e = by (λ more. over limit (5 * digits + (letter - 84)) word n (omega (arith, h)) more) (is_leading letter) (is_last letter) refl (is_empty word) e
   where
-    by : (number_from (5 * digits + (letter - 84)) word ≡ Some n → limit < n) → (f l : Bool) → is_last letter ≡ l → (m : Bool)
-        → cond f (number_from (5 * digits + (letter - 84)) word) (cond (l && m) (Some (20 * digits + (letter - 64))) None) ≡ Some n → limit < n
+    by : (number_after (5 * digits + (letter - 84)) word ≡ Some n → limit < n) → (f l : Bool) → is_last letter ≡ l → (m : Bool)
+        → cond f (number_after (5 * digits + (letter - 84)) word) (cond (l && m) (Some (20 * digits + (letter - 64))) None) ≡ Some n → limit < n
     by rest true l q m e = rest e
     by rest false true q true e =
         let same : 20 * digits + (letter - 64) ≡ n = same_Some (20 * digits + (letter - 64)) n e in
@@ -58,8 +58,8 @@ over limit digits (letter ∷ word) n h e = by (λ more. over limit (5 * digits 
     by rest false true q false e = absurd (none-some n e)
     by rest false false q m e = absurd (none-some n e)
 
-pub last-over : (limit digits letter : ℕ) (word : Name) (n : ℕ) → is_first letter ≡ false → limit < 20 * digits + (letter - 64) → number_from digits (letter ∷ word) ≡ Some n → limit < n
-last-over limit digits letter word n first h e = by (is_last letter && is_empty word) (sym (ap (λ f. cond f (number_from (5 * digits + (letter - 84)) word) (cond (is_last letter && is_empty word) (Some (20 * digits + (letter - 64))) None)) first) ∙ e)
+pub last-over : (limit digits letter : ℕ) (word : Name) (n : ℕ) → is_leading letter ≡ false → limit < 20 * digits + (letter - 64) → number_after digits (letter ∷ word) ≡ Some n → limit < n
+last-over limit digits letter word n first h e = by (is_last letter && is_empty word) (sym (ap (λ f. cond f (number_after (5 * digits + (letter - 84)) word) (cond (is_last letter && is_empty word) (Some (20 * digits + (letter - 64))) None)) first) ∙ e)
   where
     by : (l : Bool) → cond l (Some (20 * digits + (letter - 64))) None ≡ Some n → limit < n
     by true e = let same : 20 * digits + (letter - 64) ≡ n = same_Some (20 * digits + (letter - 64)) n e in omega (arith, h, same)

@@ -1,5 +1,5 @@
 -- Tokens that write no items.
-use Rattle.explain.proofs.Words.{◌≡◌, ℕ, ◌+◌, Bool, true, false, not, bytes_eq, ◌||◌, List, [], ◌∷◌, ◌++◌, length, map, refl, list_all, list_any, sym, ◌∙◌, ap, subst, arith, append_assoc, append-nil, length-append, inl, inr, true≢false, list_any-append, bytes_eq-Decides, or_parts, not-false, and_from, or_from, not-true, Name, has_name, is_label, Item, Cite, is_unfinished, is_compressed, begin, finish, Writes, WritesRow, LetterBreak, has_fault, joined, IsFirst, IsLetterBreak, EndsListedLabels, IsNotLabel, AreLettersBroken}
+use Rattle.explain.proofs.Words.{◌≡◌, ℕ, ◌+◌, Bool, true, false, not, bytes_eq, ◌||◌, List, [], ◌∷◌, ◌++◌, length, map, refl, list_all, list_any, sym, ◌∙◌, ap, subst, arith, append_assoc, append-nil, length-append, inl, inr, true≢false, list_any-append, bytes_eq-Decides, or_parts, not-false, and_from, or_from, not-true, Name, has_name, is_label, Item, Cite, is_unfinished, is_compressed, left_parenthesis, right_parenthesis, Writes, WritesRow, LetterBreak, has_fault, joined, IsFirst, IsLetterBreak, EndsListedLabels, IsNotLabel, AreLettersBroken}
 use Rattle.explain.specs.declared.broken_code.TokenFault.TheVariants as token_fault
 
 -- ---- the first word that fails a test
@@ -61,10 +61,10 @@ pub writes-normal : (tokens mandatory : List Name) → is_unfinished tokens ≡ 
 writes-normal tokens mandatory f c h = inr (c, (f, record { labels = all-labels mandatory tokens h; cites = refl }))
 
 pub writes-compressed : (tokens mandatory : List Name) (index : ℕ) (rest : List Name) (items : List Item) → is_unfinished tokens ≡ false → is_compressed tokens ≡ true
-    → (l : EndsListedLabels tokens mandatory index finish rest) → WritesRow (mandatory ++ l.first.front) (joined rest) items → Writes tokens mandatory items
+    → (l : EndsListedLabels tokens mandatory index right_parenthesis rest) → WritesRow (mandatory ++ l.first.front) (joined rest) items → Writes tokens mandatory items
 writes-compressed tokens mandatory index rest items f c l row =
     let p = listed-labels mandatory l.first.front l.first.before in
-    inl (c, (f, record { listed = l.first.front; rest = rest; whole = l.whole ∙ ap (λ w. begin ∷ w) l.first.whole; labels = p.0; none_shared = p.1; letters = row }))
+    inl (c, (f, record { listed = l.first.front; rest = rest; whole = l.whole ∙ ap (λ w. left_parenthesis ∷ w) l.first.whole; labels = p.0; none_shared = p.1; letters = row }))
 
 -- ---- the broken rule
 
@@ -77,11 +77,11 @@ not-label-normal tokens mandatory words token word rest same c f = record {
   other = not-true (is_label word) f.here;
 }
 
-module _ (tokens mandatory words : List Name) (index : ℕ) (word : Name) (rest : List Name) (starts : tokens ≡ begin ∷ words) (f : IsFirst (has_fault mandatory token_fault.NotListable) words index word rest) where
+module _ (tokens mandatory words : List Name) (index : ℕ) (word : Name) (rest : List Name) (starts : tokens ≡ left_parenthesis ∷ words) (f : IsFirst (has_fault mandatory token_fault.NotListable) words index word rest) where
   list_end-of : EndsListedLabels tokens mandatory index word rest
   list_end-of = record { words = words; whole = starts; first = f }
 
-  pub not-label-listed : (closing : Name) → closing ≡ finish → bytes_eq word closing ≡ false → is_label word ≡ false → IsNotLabel tokens mandatory (index + 1)
+  pub not-label-listed : (closing : Name) → closing ≡ right_parenthesis → bytes_eq word closing ≡ false → is_label word ≡ false → IsNotLabel tokens mandatory (index + 1)
   not-label-listed closing is other none = record {
     word = word;
     rest = rest;
@@ -89,10 +89,10 @@ module _ (tokens mandatory words : List Name) (index : ℕ) (word : Name) (rest 
     other = none;
   }
 
-  pub finish-listing : (closing : Name) → closing ≡ finish → bytes_eq word closing ≡ true → EndsListedLabels tokens mandatory index finish rest
-  finish-listing closing is same = subst (λ w. EndsListedLabels tokens mandatory index w rest) ((bytes_eq-Decides word closing).0 same ∙ is) list_end-of
+  pub right_parenthesis-listing : (closing : Name) → closing ≡ right_parenthesis → bytes_eq word closing ≡ true → EndsListedLabels tokens mandatory index right_parenthesis rest
+  right_parenthesis-listing closing is same = subst (λ w. EndsListedLabels tokens mandatory index w rest) ((bytes_eq-Decides word closing).0 same ∙ is) list_end-of
 
-module _ (tokens mandatory : List Name) (index : ℕ) (rest : List Name) (l : EndsListedLabels tokens mandatory index finish rest) (many : ℕ) (all : many ≡ length mandatory) (letters : List ℕ) (text : letters ≡ joined rest) where
+module _ (tokens mandatory : List Name) (index : ℕ) (rest : List Name) (l : EndsListedLabels tokens mandatory index right_parenthesis rest) (many : ℕ) (all : many ≡ length mandatory) (letters : List ℕ) (text : letters ≡ joined rest) where
   -- there are as many labels as mandatory ones and ones listed before `)`
   count : length (mandatory ++ l.first.front) ≡ many + index
   count = let a = length-append mandatory l.first.front in let p = l.first.index_is in omega (arith, a, p, all)

@@ -39,14 +39,14 @@ pub use Rattle.mm_read.specs.declared.stmt.Stmt.{Stmt}
 pub use Rattle.names.proofs.CodesLemmas.{name_eq-comm, name_same, same_name}
 pub use Rattle.names.specs.Codes.{AreDistinct, decode, name_at}
 pub use Rattle.proof_code.proofs.LetterItemLemmas.{WritesRow-read}
-pub use Rattle.proof_code.proofs.LettersLemmas.{first_bounds, is_first-false, is_first-true, is_last-true, last_bounds, number_of-placed, placed-number_of}
+pub use Rattle.proof_code.proofs.LettersLemmas.{first_bounds, is_leading-false, is_leading-true, is_last-true, last_bounds, number_of-placed, placed-number_of}
 pub use Rattle.proof_code.proofs.OneList.{malformed-none, one_answer}
 pub use Rattle.proof_code.proofs.WritesLemmas.{begins}
 pub use Rattle.proof_code.specs.ItemNumbers.{item_of, items_of}
-pub use Rattle.proof_code.specs.Letters.{IsNumber, is_first, is_last, number_from}
+pub use Rattle.proof_code.specs.Letters.{IsNumber, is_leading, is_last, number_after}
 pub use Rattle.proof_code.specs.Reading.{before_rest}
 pub use Rattle.proof_code.specs.Text.{numbers_from, starts_with_mark}
-pub use Rattle.proof_code.specs.Writes.{IsMalformed, Writes, WritesFinishedCompressed, WritesRow, begin, finish, is_compressed, is_unfinished}
+pub use Rattle.proof_code.specs.Writes.{IsMalformed, Writes, WritesFinishedCompressed, WritesRow, left_parenthesis, right_parenthesis, is_compressed, is_unfinished}
 pub use Rattle.proof_code.specs.declared.fault.CodeFault.{CodeFault}
 pub use Rattle.proof_code.specs.declared.fault.CodeFault.TheVariants.{Malformed, Unfinished}
 pub use Rattle.proof_code.specs.declared.item.Item.{Item}

@@ -2,7 +2,7 @@
 -- Source: Metamath, 4.3 (normal proofs) and appendix B (compressed proofs).
 -- The code reads tokens and letters from left to right.
 use Rattle.std.specs.Prelude.{◌≡◌, ◌≢◌, ℕ, suc, ◌+◌, ◌<◌, ◌≤◌, ◌⊎◌, Bool, not, ◌||◌, IsTrue, IsFalse, List, [], ◌∷◌, ◌++◌, length, flat_map}
-use Rattle.explain.specs.Words.{list_all, list_any, Name, has_byte, has_name, is_label, Item, Cite, Recall, Mark, IsNumber, is_first, is_last, question_mark, is_unfinished, is_compressed, begin, finish, WritesRow}
+use Rattle.explain.specs.Words.{list_all, list_any, Name, has_byte, has_name, is_label, Item, Cite, Recall, Mark, IsNumber, is_leading, is_last, question_mark, is_unfinished, is_compressed, left_parenthesis, right_parenthesis, WritesRow}
 use Rattle.explain.specs.declared.broken_code.TokenFault.{TokenFault}
 use Rattle.explain.specs.declared.broken_code.TokenFault.TheVariants as token_fault
 use Rattle.explain.specs.declared.why.CodeBreak.{CodeBreak}
@@ -50,7 +50,7 @@ BeginsWith P (letter ∷ letters) = P letter
 
 -- the byte is not one of A to Z
 abbrev pub IsNotLetter : ℕ → Type 0
-IsNotLetter letter = IsFalse (is_first letter) × IsFalse (is_last letter) × (letter ≢ 90)
+IsNotLetter letter = IsFalse (is_leading letter) × IsFalse (is_last letter) × (letter ≢ 90)
 
 -- the letter group has no letter yet, or some group with this beginning has a number up to the limit
 abbrev pub IsAllowedBeginning : ℕ → List ℕ → Type 0
@@ -58,7 +58,7 @@ IsAllowedBeginning limit begun = (begun ≡ []) ⊎ ((word : Name) × (n : ℕ) 
 
 -- a letter A to Y such that every letter group beginning with `begun` and this letter has a number greater than the limit
 abbrev pub IsTooGreat : ℕ → List ℕ → ℕ → Type 0
-IsTooGreat limit begun letter = IsTrue (is_first letter || is_last letter) × ((word : Name) (n : ℕ) → IsNumber (begun ++ letter ∷ word) n → limit < n)
+IsTooGreat limit begun letter = IsTrue (is_leading letter || is_last letter) × ((word : Name) (n : ℕ) → IsNumber (begun ++ letter ∷ word) n → limit < n)
 
 -- after the items and the letters U to Y that begin a letter group, the rest breaks the rule
 abbrev pub Breaks : LetterFault → ℕ → List Item → List ℕ → List ℕ → Type 0
@@ -82,7 +82,7 @@ pub record IsLetterBreak (labels : List Name) (letters : List ℕ) (broken : Let
   pub rest : List ℕ
   pub whole : letters ≡ front ++ (begun ++ rest)
   pub reads : WritesRow labels front items
-  pub firsts : IsTrue (list_all is_first begun)
+  pub firsts : IsTrue (list_all is_leading begun)
   pub allowed : IsAllowedBeginning (length labels + marks_in items) begun
   pub breaks : Breaks broken.fault (length labels + marks_in items) items begun rest
   pub letter_is : broken.letter ≡ fault_index broken.fault (length front) (length begun)
@@ -92,7 +92,7 @@ pub record IsLetterBreak (labels : List Name) (letters : List ℕ) (broken : Let
 -- this token, at this index after `(`, ends the listed labels: the first that is not a label or is a mandatory one
 pub record EndsListedLabels (tokens mandatory : List Name) (index : ℕ) (word : Name) (rest : List Name) : Type 0 where
   pub words : List Name
-  pub whole : tokens ≡ begin ∷ words
+  pub whole : tokens ≡ left_parenthesis ∷ words
   pub first : IsFirst (has_fault mandatory token_fault.NotListable) words index word rest
 
 -- this token is the first that is not a label where a label is required
@@ -100,7 +100,7 @@ pub record IsNotLabel (tokens mandatory : List Name) (token : ℕ) : Type 0 wher
   pub word : Name
   pub rest : List Name
   pub here : (IsFalse (is_compressed tokens) × IsFirst (has_fault mandatory token_fault.NotLabel) tokens token word rest)
-      ⊎ ((index : ℕ) × (token ≡ index + 1) × EndsListedLabels tokens mandatory index word rest × (word ≢ finish))
+      ⊎ ((index : ℕ) × (token ≡ index + 1) × EndsListedLabels tokens mandatory index word rest × (word ≢ right_parenthesis))
   pub other : IsFalse (is_label word)
 
 -- this token is the first listed label of a mandatory hypothesis
@@ -116,14 +116,14 @@ pub record IsMandatory (tokens mandatory : List Name) (token : ℕ) : Type 0 whe
 -- all tokens after `(` are labels that may be listed
 pub record IsUnclosed (tokens mandatory : List Name) : Type 0 where
   pub words : List Name
-  pub whole : tokens ≡ begin ∷ words
+  pub whole : tokens ≡ left_parenthesis ∷ words
   pub listed : IsFalse (list_any (has_fault mandatory token_fault.NotListable) words)
 
 -- the letters after `)` break a rule
 pub record AreLettersBroken (tokens mandatory : List Name) (broken : LetterBreak) : Type 0 where
   pub index : ℕ
   pub rest : List Name
-  pub list_end : EndsListedLabels tokens mandatory index finish rest
+  pub list_end : EndsListedLabels tokens mandatory index right_parenthesis rest
   pub letters : IsLetterBreak (mandatory ++ list_end.first.front) (joined rest) broken
 
 -- the rule that the tokens break under these mandatory labels; a token has a `?` only if the rule is `Unfinished`

@@ -2,7 +2,7 @@
 -- Source: Metamath, appendix B.
 -- This follows how the code reads; `Breaks` states the faults that it finds.
 use Rattle.std.specs.Prelude.{◌≡◌, ◌≢◌, ℕ, zero, suc, ◌+◌, ◌*◌, ◌<◌, ◌≤◌, IsTrue, IsFalse, List, [], ◌∷◌, ◌++◌, length}
-use Rattle.explain.specs.Words.{list_all, Name, is_first, number_from, before_rest, numbers_from, starts_with_mark}
+use Rattle.explain.specs.Words.{list_all, Name, is_leading, number_after, before_rest, numbers_from, starts_with_mark}
 
 -- the number of marks
 abbrev pub zeros : List ℕ → ℕ
@@ -22,8 +22,8 @@ pub record IsReadTo (label_count : ℕ) (letters : List ℕ) (index limit digits
   pub starts : IsFalse (starts_with_mark letters)
   pub reads : (text : List ℕ) → numbers_from label_count 0 (front ++ text) ≡ before_rest numbers (numbers_from limit 0 text)
   pub reads_begun : (text : List ℕ) → numbers_from limit 0 (begun ++ text) ≡ numbers_from limit digits text
-  pub counts_begun : (word : Name) → number_from 0 (begun ++ word) ≡ number_from digits word
-  pub firsts : IsTrue (list_all is_first begun)
+  pub counts_begun : (word : Name) → number_after 0 (begun ++ word) ≡ number_after digits word
+  pub firsts : IsTrue (list_all is_leading begun)
   pub zero_digits : digits ≡ 0 → begun ≡ []
   pub none_begun : begun ≡ [] → digits ≡ 0
   pub limit_is : limit ≡ label_count + zeros numbers

@@ -11,10 +11,10 @@ pub use Rattle.mm_lex.specs.Alphabet.{Name, has_byte, has_name, is_label, name_e
 pub use Rattle.mm_read.specs.Statements.{Database, Expr}
 pub use Rattle.mm_read.specs.declared.stmt.Stmt.{Stmt}
 pub use Rattle.names.specs.Codes.{decode, name_at}
-pub use Rattle.proof_code.specs.Letters.{IsNumber, is_first, is_last, number_from}
+pub use Rattle.proof_code.specs.Letters.{IsNumber, is_leading, is_last, number_after}
 pub use Rattle.proof_code.specs.Reading.{before_rest}
 pub use Rattle.proof_code.specs.Text.{numbers_from, starts_with_mark}
-pub use Rattle.proof_code.specs.Writes.{Writes, WritesRow, begin, finish, is_compressed, is_unfinished, question_mark}
+pub use Rattle.proof_code.specs.Writes.{Writes, WritesRow, left_parenthesis, right_parenthesis, is_compressed, is_unfinished, question_mark}
 pub use Rattle.proof_code.specs.declared.item.Item.{Item}
 pub use Rattle.proof_code.specs.declared.item.Item.TheVariants.{Cite, Mark, Recall}
 pub use Rattle.scope.specs.Active.{before, expr_of, is_assertion, is_variable, stmt_at}

@@ -2,7 +2,7 @@
 ghost use Rattle.std.specs.Prelude.{◌≡◌, ◌++◌, ◌<◌, ◌≤◌, ◌^◌, List, length, false, IsTrue, IsFalse, IfOk, IfSome, MatchOption};
 ghost use Rattle.std.specs.List.{list_any, list_all};
 ghost use Rattle.mm_lex.specs.Alphabet.{is_label, has_name};
-ghost use Rattle.proof_code.specs.LabelNames.{AreNames};
+ghost use Rattle.proof_code.specs.LabelSets.{IsLabelSet};
 ghost use Rattle.proof_code.specs.declared.item.Item.{Item};
 ghost use Rattle.proof_code.specs.Writes.{Writes, is_compressed, is_unfinished};
 ghost use Rattle.explain.specs.Breaks.{IsFirst, IsBreak, has_fault, joined};
@@ -10,7 +10,7 @@ ghost use Rattle.explain.specs.Breaks.{IsFirst, IsBreak, has_fault, joined};
 use crate::broken_letters::letter_break;
 use crate::why::CodeBreak;
 use mm_lex::{WordIter, Words, is_label};
-use proof_code::{MAX_LETTERS, is_compressed, names_of};
+use proof_code::{MAX_LABELS_OR_LETTERS, is_compressed, label_set};
 use std::alloc::{AllocError, Global};
 use std::collections::BTreeSet;
 
@@ -28,8 +28,8 @@ pub(crate) enum TokenFault {
 /// Returns the rule of proof code that the tokens break. They must write no items under these
 /// mandatory labels.
 ///
-/// Errors: an allocation fails, or there are more than `MAX_LETTERS` tokens, mandatory labels or
-/// letters. Cost: the tokens, times a logarithm of the number of mandatory labels.
+/// Errors: an allocation fails, or there are more than `MAX_LABELS_OR_LETTERS` tokens, mandatory
+/// labels or letters. Cost: the tokens, times a logarithm of the number of mandatory labels.
 pub(crate) fn code_break(
     alloc: Global,
     tokens: &Words,
@@ -38,7 +38,7 @@ pub(crate) fn code_break(
     requires { (items : List Item) → ¬ Writes tokens.now mandatory.now items }
     ensures { IfOk result (IsBreak tokens.now mandatory.now) }
 {
-    if tokens.len() > MAX_LETTERS {
+    if tokens.len() > MAX_LABELS_OR_LETTERS {
         return Err(AllocError);
     }
     if let Some((token, _)) = first_with_fault(
@@ -70,7 +70,7 @@ fn compressed_break(
     requires none { (items : List Item) → ¬ Writes tokens.now mandatory.now items }
     ensures { IfOk result (IsBreak tokens.now mandatory.now) }
 {
-    match names_of(alloc, mandatory) {
+    match label_set(alloc, mandatory) {
         Some(mandatory_set) => listed_break(alloc, tokens, mandatory, &mandatory_set),
         None => Err(AllocError),
     }
@@ -87,10 +87,10 @@ fn listed_break(
     requires finished { IsFalse (is_unfinished tokens.now) }
     requires few { length tokens.now ≤ 2 ^ 30 }
     requires none { (items : List Item) → ¬ Writes tokens.now mandatory.now items }
-    requires named { AreNames mandatory_set.now mandatory.now }
+    requires named { IsLabelSet mandatory_set.now mandatory.now }
     ensures { IfOk result (IsBreak tokens.now mandatory.now) }
 {
-    if mandatory.len() > MAX_LETTERS {
+    if mandatory.len() > MAX_LABELS_OR_LETTERS {
         return Err(AllocError);
     }
     let mut words = tokens.iter();
@@ -105,7 +105,7 @@ fn listed_break(
     };
     if word == b")".as_slice() {
         let letters = join_letters(alloc, &mut words)?;
-        if letters.len() > MAX_LETTERS {
+        if letters.len() > MAX_LABELS_OR_LETTERS {
             return Err(AllocError);
         }
         return match letter_break(letters.as_slice(), mandatory.len() + listed) {
@@ -132,7 +132,7 @@ fn first_with_fault<'a>(
     fault: TokenFault,
 ) -> Option<(usize, &'a [u8])>
     requires few { length words.old < 2 ^ 64 }
-    requires mandatory_set { IfSome mandatory_set (λ set. AreNames set.now mandatory.now) }
+    requires mandatory_set { IfSome mandatory_set (λ set. IsLabelSet set.now mandatory.now) }
     ensures { MatchOption result (list_any (has_fault mandatory.now fault) words.old ≡ false)
         (λ r. IsFirst (has_fault mandatory.now fault) words.old r.0 r.1.now words.new) }
 {
@@ -153,7 +153,7 @@ fn has_fault(
     mandatory_set: Option<&BTreeSet<&[u8]>>,
     fault: TokenFault,
 ) -> bool
-    requires { IfSome mandatory_set (λ set. AreNames set.now mandatory.now) }
+    requires { IfSome mandatory_set (λ set. IsLabelSet set.now mandatory.now) }
     ensures { result ≡ has_fault mandatory.now fault token.now }
 {
     match fault {
@@ -178,7 +178,7 @@ fn join_letters(alloc: Global, words: &mut WordIter<'_>) -> Result<Vec<u8>, Allo
 
 /// Returns whether a name is one of the labels, which may also be given as a set.
 fn has_label(labels: &Words, label_set: Option<&BTreeSet<&[u8]>>, name: &[u8]) -> bool
-    requires { IfSome label_set (λ set. AreNames set.now labels.now) }
+    requires { IfSome label_set (λ set. IsLabelSet set.now labels.now) }
     ensures { result ≡ has_name name.now labels.now }
 {
     match label_set {

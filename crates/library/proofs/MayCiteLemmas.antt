@@ -1,5 +1,5 @@
 -- A proof cites only mandatory hypotheses and statements that a token before `)` names.
-use Rattle.library.proofs.Words.{◌≡◌, ◌↔◌, ◌⊎◌, ℕ, zero, suc, ◌+◌, Bool, true, false, ◌||◌, if◌then◌else◌, List, [], ◌∷◌, ◌++◌, Option, Some, None, slice_get, refl, list_all, list_any, sym, ◌∙◌, ap, subst, inl, inr, true≢false, append-nil, bytes_eq-Decides, or_right, and_parts, false_from_ne_true, any_passes_from_place, Name, name_eq, has_name, is_label, Stmt, Float, Ess, Database, bare, bares, before, stmt_at, label_of, proof_of, hypotheses, Carries, is_hypothesis_kind, HasLabelsOnce, IsPosition, Item, Cite, Recall, Mark, AreItems, Writes, begin, finish, label_or_empty, mandatory_labels, IsProvable, IsMarked, is_marked, listed_in, ListsNone, ListsSome, ProofCitesMarked, Cites, name_same, map-back}
+use Rattle.library.proofs.Words.{◌≡◌, ◌↔◌, ◌⊎◌, ℕ, zero, suc, ◌+◌, Bool, true, false, ◌||◌, if◌then◌else◌, List, [], ◌∷◌, ◌++◌, Option, Some, None, slice_get, refl, list_all, list_any, sym, ◌∙◌, ap, subst, inl, inr, true≢false, append-nil, bytes_eq-Decides, or_right, and_parts, false_from_ne_true, any_passes_from_place, Name, name_eq, has_name, is_label, Stmt, Float, Ess, Database, bare, bares, before, stmt_at, label_of, proof_of, hypotheses, Carries, is_hypothesis_kind, HasLabelsOnce, IsPosition, Item, Cite, Recall, Mark, AreItems, Writes, left_parenthesis, right_parenthesis, label_or_empty, mandatory_labels, IsProvable, IsMarked, is_marked, listed_in, ListsNone, ListsSome, ProofCitesMarked, Cites, name_same, map-back}
 use Rattle.library.proofs.FrontLemmas.{hypothesis-there, hypotheses-at, hypotheses-bare}
 use Rattle.library.proofs.UseMarkLemmas.{get-either, position-is}
 use Rattle.library.proofs.CitationWalkLemmas.{carries-bare}
@@ -18,10 +18,10 @@ row-label labels marks [] (item ∷ items) are place label e = absurd are
 row-label labels marks row items are place label e = absurd (let h = e in cc)
 
 -- a label is not the `)`
-no-finish : (label : Name) → is_label label ≡ true → name_eq label finish ≡ false
-no-finish label is = false_from_ne_true (name_eq label finish) (λ e. true≢false (sym is ∙ ap is_label ((bytes_eq-Decides label finish).0 e)))
+no-right_parenthesis : (label : Name) → is_label label ≡ true → name_eq label right_parenthesis ≡ false
+no-right_parenthesis label is = false_from_ne_true (name_eq label right_parenthesis) (λ e. true≢false (sym is ∙ ap is_label ((bytes_eq-Decides label right_parenthesis).0 e)))
 
-listed-more : (token : Name) (tokens : List Name) → name_eq token finish ≡ false → listed_in (token ∷ tokens) ≡ token ∷ listed_in tokens
+listed-more : (token : Name) (tokens : List Name) → name_eq token right_parenthesis ≡ false → listed_in (token ∷ tokens) ≡ token ∷ listed_in tokens
 listed-more token tokens e = ap (λ t. if t then [] else token ∷ listed_in tokens) e
 
 -- the labels before `)` are listed
@@ -29,7 +29,7 @@ labels-listed : (labels rest : List Name) → list_all is_label labels ≡ true 
 labels-listed [] rest are k label e = absurd (let h = e in cc)
 labels-listed (token ∷ labels) rest are k label e =
     let both = and_parts (is_label token) (list_all is_label labels) are in
-    subst (λ ns. has_name label ns ≡ true) (sym (listed-more token (labels ++ rest) (no-finish token both.0))) (by k e (λ i e. labels-listed labels rest both.1 i label e))
+    subst (λ ns. has_name label ns ≡ true) (sym (listed-more token (labels ++ rest) (no-right_parenthesis token both.0))) (by k e (λ i e. labels-listed labels rest both.1 i label e))
   where
     by : (k : ℕ) → slice_get (token ∷ labels) k ≡ Some label → ((i : ℕ) → slice_get labels i ≡ Some label → has_name label (listed_in (labels ++ rest)) ≡ true) → has_name label (token ∷ listed_in (labels ++ rest)) ≡ true
     by zero e later = let same : token ≡ label = (let h = e in cc) in ap (λ b. b || has_name label (listed_in (labels ++ rest))) (ap (name_eq label) same ∙ name_same label)
@@ -44,8 +44,8 @@ cited-label tokens mandatory items (inl packed) place label e =
     elim (get-either mandatory w.listed at.0 label at.1) [
       | inl there ↦ inl there
       | inr listed ↦ inr (subst (λ ts. has_name label (listed_in ts) ≡ true) (sym w.whole)
-          (subst (λ ns. has_name label ns ≡ true) (sym (listed-more begin (w.listed ++ finish ∷ w.rest) refl))
-          (or_right (name_eq label begin) (has_name label (listed_in (w.listed ++ finish ∷ w.rest))) (labels-listed w.listed (finish ∷ w.rest) w.labels listed.0 label listed.1))))
+          (subst (λ ns. has_name label ns ≡ true) (sym (listed-more left_parenthesis (w.listed ++ right_parenthesis ∷ w.rest) refl))
+          (or_right (name_eq label left_parenthesis) (has_name label (listed_in (w.listed ++ right_parenthesis ∷ w.rest))) (labels-listed w.listed (right_parenthesis ∷ w.rest) w.labels listed.0 label listed.1))))
     ]
 cited-label tokens mandatory items (inr plain) place label e =
     let w = plain.1.1 in
@@ -65,7 +65,7 @@ module _ (F : Database) (once : HasLabelsOnce F) (marks : List Bool) where
       let here : place ≡ Some a = position-is F token place a s once p (subst (Carries F a s) same c) in
       true≢false (sym m ∙ (ap (is_marked marks) (sym here) ∙ none)))
 
-  pub lists-next : (tokens left rest : List Name) (token closing : Name) (place : Option ℕ) → left ≡ token ∷ rest → closing ≡ finish → name_eq token closing ≡ false → IsPosition F token place → is_marked marks place ≡ false
+  pub lists-next : (tokens left rest : List Name) (token closing : Name) (place : Option ℕ) → left ≡ token ∷ rest → closing ≡ right_parenthesis → name_eq token closing ≡ false → IsPosition F token place → is_marked marks place ≡ false
       → ((a : ℕ) (s : Stmt) (label : Name) → IsMarked marks a → Carries F a s label → has_name label (listed_in tokens) ≡ has_name label (listed_in left))
       → (a : ℕ) (s : Stmt) (label : Name) → IsMarked marks a → Carries F a s label → has_name label (listed_in tokens) ≡ has_name label (listed_in rest)
   lists-next tokens left rest token closing place split is goes_on p none so_far a s label m c =
@@ -75,7 +75,7 @@ module _ (F : Database) (once : HasLabelsOnce F) (marks : List Bool) where
       ∙ ap (λ b. b || has_name label (listed_in rest)) (other-label token place p none a s label m c)))
 
   -- a token that names a marked statement
-  pub lists-some : (tokens left rest : List Name) (token closing : Name) (place : Option ℕ) → left ≡ token ∷ rest → closing ≡ finish → name_eq token closing ≡ false → IsPosition F token place → is_marked marks place ≡ true
+  pub lists-some : (tokens left rest : List Name) (token closing : Name) (place : Option ℕ) → left ≡ token ∷ rest → closing ≡ right_parenthesis → name_eq token closing ≡ false → IsPosition F token place → is_marked marks place ≡ true
       → ((a : ℕ) (s : Stmt) (label : Name) → IsMarked marks a → Carries F a s label → has_name label (listed_in tokens) ≡ has_name label (listed_in left))
       → ListsSome F tokens marks
   lists-some tokens left rest token closing place split is goes_on p one so_far = by place p one

@@ -1,5 +1,5 @@
 -- Whether a compressed proof cites a marked statement, by its numbers and a test of each of its labels.
-use Rattle.library.proofs.Words.{◌≡◌, ◌↔◌, ℕ, zero, suc, ◌+◌, ◌-◌, ◌<◌, ◌≤◌, Bool, true, false, ◌||◌, if◌then◌else◌, List, [], ◌∷◌, ◌++◌, length, map, get_or, slice_index_or, take, drop, Option, Some, None, option_map, slice_get, refl, list_any, true≢false, length-append, sym, ◌∙◌, ap, subst, arith, append_assoc, inl, inr, slice_get-map, bytes_eq-Decides, map-append, length-map, length-drop, take_more, drop_more, get_or_append_left, append-nil, both_ways, true_from_ne_false, cases_lt, Name, name_eq, has_name, Stmt, Database, bare, bares, before, stmt_at, proof_of, hypotheses, HasLabelsOnce, IsPosition, Item, Cite, Recall, item_of, items_of, finish, Writes, WritesCompressed, WritesFinishedCompressed, WritesFinishedNormal, is_compressed, label_or_empty, mandatory_labels, IsProvable, Good, HasItems, is_marked, cited_position, AreLabelMarks, ItemsCiteMarked, ProofCitesMarked, listed_in, ListsNone, ListsSome, get_or-map, get_or_from_slice_get, slice_get_within, get_or-append_right, take-add, cases_Bool, map-map, IsHeading, share_label, positions-end, apart-written, shared-none, item-cite, item-recall}
+use Rattle.library.proofs.Words.{◌≡◌, ◌↔◌, ℕ, zero, suc, ◌+◌, ◌-◌, ◌<◌, ◌≤◌, Bool, true, false, ◌||◌, if◌then◌else◌, List, [], ◌∷◌, ◌++◌, length, map, get_or, slice_index_or, take, drop, Option, Some, None, option_map, slice_get, refl, list_any, true≢false, length-append, sym, ◌∙◌, ap, subst, arith, append_assoc, inl, inr, slice_get-map, bytes_eq-Decides, map-append, length-map, length-drop, take_more, drop_more, get_or_append_left, append-nil, both_ways, true_from_ne_false, cases_lt, Name, name_eq, has_name, Stmt, Database, bare, bares, before, stmt_at, proof_of, hypotheses, HasLabelsOnce, IsPosition, Item, Cite, Recall, item_of, items_of, right_parenthesis, Writes, WritesCompressed, WritesFinishedCompressed, WritesFinishedNormal, is_compressed, label_or_empty, mandatory_labels, IsProvable, Good, HasItems, is_marked, cited_position, AreLabelMarks, ItemsCiteMarked, ProofCitesMarked, listed_in, ListsNone, ListsSome, get_or-map, get_or_from_slice_get, slice_get_within, get_or-append_right, take-add, cases_Bool, map-map, IsHeadingWithNumbers, share_label, positions-end, apart-written, shared-none, item-cite, item-recall}
 use Rattle.library.proofs.FrontLemmas.{AreHypothesesAt, hypotheses-at}
 use Rattle.library.proofs.UseMarkLemmas.{meets-items}
 use Rattle.library.proofs.MayCiteLemmas.{kind-labelled, cited-label}
@@ -153,7 +153,7 @@ abbrev pub TellsMeeting : Database → List Name → List Name → List Bool →
 TellsMeeting S mandatory tokens marks found =
     (other : List Item) → WritesCompressed tokens mandatory other → (items : List Item) × WritesCompressed tokens mandatory items × (found ≡ true ↔ ItemsCiteMarked S items marks)
 
-module _ (tokens words : List Name) (mandatory count : ℕ) (numbers : List ℕ) (h : IsHeading tokens mandatory words count numbers) where
+module _ (tokens words : List Name) (mandatory count : ℕ) (numbers : List ℕ) (h : IsHeadingWithNumbers tokens mandatory words count numbers) where
   pub tells-heading : (S : Database) (labels : List Name) (marks : List Bool) (found : Bool) → length labels ≡ mandatory
       → (found ≡ true ↔ ItemsCiteMarked S (items_of (labels ++ take count words) numbers) marks) → TellsMeeting S labels tokens marks found
   tells-heading S labels marks found long meets = λ other written. elim (cases_Bool (share_label labels (take count words))) [
@@ -172,9 +172,9 @@ labels-long S at s positions are = length-map (hypotheses (before S at) s) (λ i
 
 listed-there : (label : Name) (tokens : List Name) → has_name label (listed_in tokens) ≡ true → (k : ℕ) × (slice_get tokens k ≡ Some label)
 listed-there label [] h = absurd (true≢false (sym h))
-listed-there label (token ∷ tokens) h = closes (name_eq token finish) refl (listed-there label tokens)
+listed-there label (token ∷ tokens) h = closes (name_eq token right_parenthesis) refl (listed-there label tokens)
   where
-    closes : (b : Bool) → name_eq token finish ≡ b → (has_name label (listed_in tokens) ≡ true → (k : ℕ) × (slice_get tokens k ≡ Some label)) → (k : ℕ) × (slice_get (token ∷ tokens) k ≡ Some label)
+    closes : (b : Bool) → name_eq token right_parenthesis ≡ b → (has_name label (listed_in tokens) ≡ true → (k : ℕ) × (slice_get tokens k ≡ Some label)) → (k : ℕ) × (slice_get (token ∷ tokens) k ≡ Some label)
     closes true q later = absurd (true≢false (sym h ∙ ap (λ b. has_name label (if b then [] else token ∷ listed_in tokens)) q))
     closes false q later = names (name_eq label token) refl (sym (ap (λ b. has_name label (if b then [] else token ∷ listed_in tokens)) q) ∙ h)
       where

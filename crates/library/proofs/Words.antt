@@ -56,8 +56,8 @@ pub use Rattle.proof_code.proofs.OneList.{malformed-none, one_answer, one_list}
 pub use Rattle.proof_code.proofs.ReadProofLemmas.{apart-written, shared-none}
 pub use Rattle.proof_code.proofs.RowOfNumbers.{item-cite, item-recall}
 pub use Rattle.proof_code.specs.ItemNumbers.{item_of, items_of}
-pub use Rattle.proof_code.specs.Reading.{IsHeading, share_label}
-pub use Rattle.proof_code.specs.Writes.{AreItems, IsMalformed, Writes, WritesCompressed, WritesFinishedCompressed, WritesFinishedNormal, begin, finish, is_compressed, is_unfinished}
+pub use Rattle.proof_code.specs.Reading.{IsHeadingWithNumbers, share_label}
+pub use Rattle.proof_code.specs.Writes.{AreItems, IsMalformed, Writes, WritesCompressed, WritesFinishedCompressed, WritesFinishedNormal, left_parenthesis, right_parenthesis, is_compressed, is_unfinished}
 pub use Rattle.proof_code.specs.declared.fault.CodeFault.{CodeFault}
 pub use Rattle.proof_code.specs.declared.fault.CodeFault.TheVariants.{Malformed}
 pub use Rattle.proof_code.specs.declared.item.Item.{Item}

@@ -2,7 +2,7 @@
 -- Source: none; for the private functions of `axioms_used` and `cited_by`.
 -- The marks are a list with one flag for each position, the first for position 1; they are not the marks of proof code.
 use Rattle.std.specs.Prelude.{◌≡◌, ◌⊎◌, ℕ, zero, suc, ◌≤◌, Bool, true, false, List, [], ◌∷◌, length, map, if◌then◌else◌, Option, Some, None, slice_index_or, slice_set}
-use Rattle.library.specs.Words.{Name, name_eq, has_name, Stmt, Database, Carries, Item, finish}
+use Rattle.library.specs.Words.{Name, name_eq, has_name, Stmt, Database, Carries, Item, right_parenthesis}
 use Rattle.frame.specs.AtPosition.{ArePositions}
 use Rattle.library.specs.Uses.{ItemsCite, Cites, IsAxiomAt}
 
@@ -58,7 +58,7 @@ ProofCitesMarked S at marks = (a : ℕ) × IsMarked marks a × Cites S at a
 -- the tokens before `)`: those that a compressed proof lists after `(`, or all of a normal one
 abbrev pub listed_in : List Name → List Name
 listed_in [] = []
-listed_in (token ∷ tokens) = if name_eq token finish then [] else token ∷ listed_in tokens
+listed_in (token ∷ tokens) = if name_eq token right_parenthesis then [] else token ∷ listed_in tokens
 
 -- none of those tokens is the label of a statement that is marked
 abbrev pub ListsNone : Database → List Name → List Bool → Type 0

@@ -8,7 +8,7 @@ pub use Rattle.mm_read.specs.Reads.{HasTokens, IsNoDatabase, IsReadFault, Reads}
 pub use Rattle.mm_read.specs.Statements.{AreShaped, Database}
 pub use Rattle.mm_read.specs.declared.stmt.Stmt.{Stmt}
 pub use Rattle.mm_read.specs.declared.stmt.Stmt.TheVariants.{Axiom, Const, Prove}
-pub use Rattle.proof_code.specs.Writes.{Writes, finish, is_unfinished}
+pub use Rattle.proof_code.specs.Writes.{Writes, right_parenthesis, is_unfinished}
 pub use Rattle.proof_code.specs.declared.item.Item.{Item}
 pub use Rattle.scope.specs.Active.{bares, is_closed, is_provable, proof_of, stmt_at}
 pub use Rattle.scope.specs.Legal.{AllLegal, first_broken}

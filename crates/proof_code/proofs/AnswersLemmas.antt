@@ -1,5 +1,5 @@
 -- Tokens that write items have no `?`, and the numbers of a normal proof.
-use Rattle.proof_code.proofs.Words.{◌≡◌, ℕ, ◌+◌, ◌-◌, ◌*◌, Bool, true, false, ◌==◌, List, [], ◌∷◌, ◌++◌, length, None, map, refl, list_all, list_any, range_with_len, sym, ◌∙◌, ap, arith, true≢false, inl, inr, length-map, get_or-map, list_any-append, fill_by_all, none-some, and_parts, or_cases, eqb-true, false_from_ne_true, Name, has_byte, is_label, is_label_byte, spaced, Item, Cite, Mark, item_of, items_of, with_number, numbers_from, finish, question_mark, is_unfinished, WritesRow, WritesCompressed, map-map}
+use Rattle.proof_code.proofs.Words.{◌≡◌, ℕ, ◌+◌, ◌-◌, ◌*◌, Bool, true, false, ◌==◌, List, [], ◌∷◌, ◌++◌, length, None, map, refl, list_all, list_any, range_with_len, sym, ◌∙◌, ap, arith, true≢false, inl, inr, length-map, get_or-map, list_any-append, fill_by_all, none-some, and_parts, or_cases, eqb-true, false_from_ne_true, Name, has_byte, is_label, is_label_byte, spaced, Item, Cite, Mark, item_of, items_of, with_number, numbers_from, right_parenthesis, question_mark, is_unfinished, WritesRow, WritesCompressed, map-map}
 use Rattle.proof_code.proofs.RowOfNumbers.{joined, by_letter, item-cite}
 use Rattle.proof_code.proofs.LetterItemLemmas.{RowIsRead, read-WritesRow}
 use Rattle.proof_code.proofs.TextLemmas.{list_any-spaced, list_any-joined}
@@ -47,7 +47,7 @@ row_finished labels rest items w =
 -- a compressed proof that writes items has no `?`
 pub compressed_finished : (tokens mandatory : List Name) (items : List Item) → WritesCompressed tokens mandatory items → is_unfinished tokens ≡ false
 compressed_finished tokens mandatory items w =
-    ap is_unfinished w.whole ∙ (list_any-append (has_byte question_mark) w.listed (finish ∷ w.rest)
+    ap is_unfinished w.whole ∙ (list_any-append (has_byte question_mark) w.listed (right_parenthesis ∷ w.rest)
     ∙ rw (labels_finished w.listed w.labels, row_finished (mandatory ++ w.listed) w.rest items w.letters) refl)
 
 -- a token has a `?` exactly if the text of the tokens has one

@@ -1,12 +1,12 @@
 -- The names of labels, put into a set one by one.
-use Rattle.proof_code.proofs.Words.{◌≡◌, true, List, [], ◌∷◌, ◌++◌, bytes_eq, cond, sym, ◌∙◌, ap, append_assoc, list_any-append, same_from_decides, Decides-like, bytes_eq-Decides, Name, name_eq, has_name, BTreeSet, contains, nat_cmp, is_eq, slice_cmp, is_eq-slice_cmp, tried_first, AreNames}
+use Rattle.proof_code.proofs.Words.{◌≡◌, true, List, [], ◌∷◌, ◌++◌, bytes_eq, cond, sym, ◌∙◌, ap, append_assoc, list_any-append, same_from_decides, Decides-like, bytes_eq-Decides, Name, name_eq, has_name, BTreeSet, contains, nat_cmp, is_eq, slice_cmp, is_eq-slice_cmp, tried_first, IsLabelSet}
 use Rattle.std.specs.Borrow.{Bor}
 
 -- the set has the names of the labels before those that are left
 pub record NamesTo (labels left : List Name) (names : BTreeSet (Bor Name)) : Type 0 where
   pub done : List Name
   pub whole : labels ≡ done ++ left
-  pub named : AreNames names done
+  pub named : IsLabelSet names done
 
 bytes_eq-sym : (a b : Name) → bytes_eq a b ≡ bytes_eq b a
 bytes_eq-sym a b = same_from_decides (bytes_eq a b) (bytes_eq b a) (bytes_eq-Decides a b) (Decides-like (bytes_eq b a) sym sym (bytes_eq-Decides b a))

@@ -1,5 +1,5 @@
 -- A word's place in the order of all words is the number that the formula gives.
-use Rattle.proof_code.proofs.Words.{◌≡◌, ℕ, zero, suc, ◌+◌, ◌-◌, ◌*◌, ◌<◌, ◌≤◌, true, false, List, [], ◌∷◌, ◌++◌, map, flat_map, length, Option, Some, slice_get, get_or, refl, range_with_len, Contains, option_map, sym, ◌∙◌, ap, subst, arith, inl, inr, slice_get-map, slice_get-get_or, none-some, same_Some, cases_Bool, nat_tests, and-false, map-append, length-map, get_or-map, get_or-range_with_len, get_or-map-range_with_len, Name, first_letters, words_of_size, words_below, IsNumber, is_last, is_first, number_from, number_of, Contains-append_left, Contains-append_right}
+use Rattle.proof_code.proofs.Words.{◌≡◌, ℕ, zero, suc, ◌+◌, ◌-◌, ◌*◌, ◌<◌, ◌≤◌, true, false, List, [], ◌∷◌, ◌++◌, map, flat_map, length, Option, Some, slice_get, get_or, refl, range_with_len, Contains, option_map, sym, ◌∙◌, ap, subst, arith, inl, inr, slice_get-map, slice_get-get_or, none-some, same_Some, cases_Bool, nat_tests, and-false, map-append, length-map, get_or-map, get_or-range_with_len, get_or-map-range_with_len, Name, leading_letters, words_with_leading, words_with_fewer_leading, IsNumber, is_last, is_leading, number_after, number_of, Contains-append_left, Contains-append_right}
 
 -- how many words have n letters before the last, and how many have fewer
 abbrev count_of_size : ℕ → ℕ
@@ -32,46 +32,46 @@ row-get a (suc m) (suc k) x h = row-get (a + 1) m k x h ∙ ap Some (omega arith
 pub is_last-true : (c : ℕ) → 65 ≤ c → c ≤ 84 → is_last c ≡ true
 is_last-true c low high = grind (arith, nat_tests)
 
-pub is_first-false : (c : ℕ) → c ≤ 84 → is_first c ≡ false
-is_first-false c high = grind (arith, nat_tests)
+pub is_leading-false : (c : ℕ) → c ≤ 84 → is_leading c ≡ false
+is_leading-false c high = grind (arith, nat_tests)
 
 -- the numbers of the words of one letter, from a letter on
-numbers_of_last : (d a n : ℕ) → 65 ≤ a → a + n ≤ 85 → map (number_from d) (map (λ c. c ∷ []) (range_with_len a n)) ≡ row (20 * d + (a - 64)) n
+numbers_of_last : (d a n : ℕ) → 65 ≤ a → a + n ≤ 85 → map (number_after d) (map (λ c. c ∷ []) (range_with_len a n)) ≡ row (20 * d + (a - 64)) n
 numbers_of_last d a zero low high = refl
 numbers_of_last d a (suc n) low high =
-    let first : is_first a ≡ false = is_first-false a (omega arith) in
+    let first : is_leading a ≡ false = is_leading-false a (omega arith) in
     let last : is_last a ≡ true = is_last-true a low (omega arith) in
     let next : 20 * d + (a + 1 - 64) ≡ 20 * d + (a - 64) + 1 = omega arith in
     rw (first, last) (ap (λ r. Some (20 * d + (a - 64)) ∷ r) (numbers_of_last d (a + 1) n (omega arith) (omega arith) ∙ ap (λ b. row b n) next))
 
 -- one more letter in front of the words is one more digit in base 5
-numbers_after : (d e letter : ℕ) (words : List Name) → is_first letter ≡ true → 5 * d + (letter - 84) ≡ e → map (number_from d) (map (λ word. letter ∷ word) words) ≡ map (number_from e) words
+numbers_after : (d e letter : ℕ) (words : List Name) → is_leading letter ≡ true → 5 * d + (letter - 84) ≡ e → map (number_after d) (map (λ word. letter ∷ word) words) ≡ map (number_after e) words
 numbers_after d e letter [] first is = refl
-numbers_after d e letter (word ∷ words) first is = rw (first, is) (ap (λ r. number_from e word ∷ r) (numbers_after d e letter words first is))
+numbers_after d e letter (word ∷ words) first is = rw (first, is) (ap (λ r. number_after e word ∷ r) (numbers_after d e letter words first is))
 
 abbrev after_letter : ℕ → List Name → List Name
 after_letter letter words = map (λ word. letter ∷ word) words
 
-pub is_first-true : (c : ℕ) → 85 ≤ c → c ≤ 89 → is_first c ≡ true
-is_first-true c low high = grind (arith, nat_tests)
+pub is_leading-true : (c : ℕ) → 85 ≤ c → c ≤ 89 → is_leading c ≡ true
+is_leading-true c low high = grind (arith, nat_tests)
 
 -- words of one size after each of some letters in turn give a row, if the words give a row of `size` numbers after any digits
-numbers_of_first : (words : List Name) (size below d e a k : ℕ) → e ≡ 5 * d + (a - 84) → 85 ≤ a → a + k ≤ 90 → ((e : ℕ) → map (number_from e) words ≡ row (suc (e * size + below)) size)
-    → map (number_from d) (flat_map (λ letter. after_letter letter words) (range_with_len a k)) ≡ row (suc (e * size + below)) (k * size)
+numbers_of_first : (words : List Name) (size below d e a k : ℕ) → e ≡ 5 * d + (a - 84) → 85 ≤ a → a + k ≤ 90 → ((e : ℕ) → map (number_after e) words ≡ row (suc (e * size + below)) size)
+    → map (number_after d) (flat_map (λ letter. after_letter letter words) (range_with_len a k)) ≡ row (suc (e * size + below)) (k * size)
 numbers_of_first words size below d e a zero is low high listed_count = let none : 0 ≡ 0 * size = omega arith in ap (row (suc (e * size + below))) none
 numbers_of_first words size below d e a (suc k) is low high listed_count =
-    rw (map-append, numbers_after d e a words (is_first-true a low (omega arith)) (sym is), listed_count e, numbers_of_first words size below d (e + 1) (a + 1) k (omega arith) (omega arith) (omega arith) listed_count)
+    rw (map-append, numbers_after d e a words (is_leading-true a low (omega arith)) (sym is), listed_count e, numbers_of_first words size below d (e + 1) (a + 1) k (omega arith) (omega arith) (omega arith) listed_count)
     (row-append (suc (e * size + below)) size (k * size) (suc ((e + 1) * size + below)) (suc k * size) (omega arith) (omega arith))
 
 -- the numbers of the words of one size, in order
-numbers_of_size : (n d : ℕ) → map (number_from d) (words_of_size n) ≡ row (suc (d * count_of_size n + count_below n)) (count_of_size n)
+numbers_of_size : (n d : ℕ) → map (number_after d) (words_with_leading n) ≡ row (suc (d * count_of_size n + count_below n)) (count_of_size n)
 numbers_of_size zero d = numbers_of_last d 65 20 (omega arith) (omega arith) ∙ ap (λ b. row b 20) (omega arith)
 numbers_of_size (suc n) d =
-    numbers_of_first (words_of_size n) (count_of_size n) (count_below n) d (5 * d + 1) 85 5 (omega arith) (omega arith) (omega arith) (numbers_of_size n)
+    numbers_of_first (words_with_leading n) (count_of_size n) (count_below n) d (5 * d + 1) 85 5 (omega arith) (omega arith) (omega arith) (numbers_of_size n)
     ∙ ap (λ b. row b (5 * count_of_size n)) (omega arith)
 
 -- the numbers of all words with fewer letters
-numbers_below : (n : ℕ) → map number_of (words_below n) ≡ row 1 (count_below n)
+numbers_below : (n : ℕ) → map number_of (words_with_fewer_leading n) ≡ row 1 (count_below n)
 numbers_below zero = refl
 numbers_below (suc n) =
     rw (map-append, numbers_below n, numbers_of_size n 0)
@@ -81,7 +81,7 @@ numbers_below (suc n) =
 pub number_of-placed : (word : Name) (n : ℕ) → IsNumber word n → number_of word ≡ Some n
 number_of-placed word zero h = absurd h
 number_of-placed word (suc n) h =
-    let at : slice_get (map number_of (words_below (length word))) n ≡ Some (number_of word) = slice_get-map number_of (words_below (length word)) n ∙ ap (option_map number_of) h in
+    let at : slice_get (map number_of (words_with_fewer_leading (length word))) n ≡ Some (number_of word) = slice_get-map number_of (words_with_fewer_leading (length word)) n ∙ ap (option_map number_of) h in
     let in_row : slice_get (row 1 (count_below (length word))) n ≡ Some (number_of word) = ap (λ r. slice_get r n) (sym (numbers_below (length word))) ∙ at in
     row-get 1 (count_below (length word)) n (number_of word) in_row ∙ ap Some (omega arith)
 
@@ -99,7 +99,7 @@ Contains-after_one (letter ∷ letters) words c (suc j) word within at h =
     Contains-append_right (after_letter letter words) (flat_map (λ letter. after_letter letter words) letters) (c ∷ word) (Contains-after_one letters words c j word (omega arith) at h)
 
 -- a letter before the last letter of a word lies between U and Y
-pub first_bounds : (c : ℕ) → is_first c ≡ true → (85 ≤ c) × (c ≤ 89)
+pub first_bounds : (c : ℕ) → is_leading c ≡ true → (85 ≤ c) × (c ≤ 89)
 first_bounds c h = (grind (arith, nat_tests), grind (arith, nat_tests))
 
 -- the last letter of a word lies between A and T
@@ -107,8 +107,8 @@ pub last_bounds : (c : ℕ) → is_last c ≡ true → (65 ≤ c) × (c ≤ 84)
 last_bounds c h = (grind (arith, nat_tests), grind (arith, nat_tests))
 
 -- a word to which the formula gives a number is among those of its size
-Contains-word : (c : ℕ) (word : Name) (d m : ℕ) → number_from d (c ∷ word) ≡ Some m → Contains (words_of_size (length word)) (c ∷ word)
-Contains-word c [] d m h = elim (cases_Bool (is_first c)) [
+Contains-word : (c : ℕ) (word : Name) (d m : ℕ) → number_after d (c ∷ word) ≡ Some m → Contains (words_with_leading (length word)) (c ∷ word)
+Contains-word c [] d m h = elim (cases_Bool (is_leading c)) [
   | inl e ↦ absurd (none-some m (rw e at h))
   | inr e ↦ elim (cases_Bool (is_last c)) [
     | inl f ↦
@@ -117,11 +117,11 @@ Contains-word c [] d m h = elim (cases_Bool (is_first c)) [
     | inr f ↦ absurd (none-some m (rw (e, f) at h))
   ]
 ]
-Contains-word c (x ∷ word) d m h = elim (cases_Bool (is_first c)) [
+Contains-word c (x ∷ word) d m h = elim (cases_Bool (is_leading c)) [
   | inl e ↦
       let bounds : (85 ≤ c) × (c ≤ 89) = first_bounds c e in
-      let rest : Contains (words_of_size (length word)) (x ∷ word) = Contains-word x word (5 * d + (c - 84)) m (rw e at h) in
-      Contains-after_one first_letters (words_of_size (length word)) c (c - 85) (x ∷ word) (omega (arith, bounds)) (get_or-range_with_len 85 5 (c - 85) 0 (omega (arith, bounds)) ∙ omega (arith, bounds)) rest
+      let rest : Contains (words_with_leading (length word)) (x ∷ word) = Contains-word x word (5 * d + (c - 84)) m (rw e at h) in
+      Contains-after_one leading_letters (words_with_leading (length word)) c (c - 85) (x ∷ word) (omega (arith, bounds)) (get_or-range_with_len 85 5 (c - 85) 0 (omega (arith, bounds)) ∙ omega (arith, bounds)) rest
   | inr e ↦ absurd (none-some m (rw (e, and-false (is_last c)) at h))
 ]
 
@@ -129,8 +129,8 @@ Contains-word c (x ∷ word) d m h = elim (cases_Bool (is_first c)) [
 pub placed-number_of : (word : Name) (n : ℕ) → number_of word ≡ Some n → IsNumber word n
 placed-number_of [] n h = absurd (none-some n h)
 placed-number_of (c ∷ word) n h =
-    let has : Contains (words_below (suc (length word))) (c ∷ word) = Contains-append_right (words_below (length word)) (words_of_size (length word)) (c ∷ word) (Contains-word c word 0 n h) in
-    let placed : IsNumber (c ∷ word) (suc has.0) = slice_get-get_or (words_below (suc (length word))) has.0 (c ∷ word) has.1 ∙ ap Some has.2 in
+    let has : Contains (words_with_fewer_leading (suc (length word))) (c ∷ word) = Contains-append_right (words_with_fewer_leading (length word)) (words_with_leading (length word)) (c ∷ word) (Contains-word c word 0 n h) in
+    let placed : IsNumber (c ∷ word) (suc has.0) = slice_get-get_or (words_with_fewer_leading (suc (length word))) has.0 (c ∷ word) has.1 ∙ ap Some has.2 in
     let is : suc has.0 ≡ n = same_Some (suc has.0) n (sym (number_of-placed (c ∷ word) (suc has.0) placed) ∙ h) in
     let P : ℕ → Type 0 = λ k. IsNumber (c ∷ word) k in
     subst P is placed

@@ -1,5 +1,5 @@
 -- The labels counted are those that the header lists, whether they are counted byte by byte or sixteen bytes at a time.
-use Rattle.proof_code.proofs.Words.{◌≡◌, ℕ, zero, suc, ◌+◌, ◌-◌, ◌<◌, ◌≤◌, Bool, true, false, cond, ◌==◌, List, [], ◌∷◌, ◌++◌, length, drop, slice_index_or, Option, Some, None, refl, list_all, option_map, sym, ◌∙◌, ap, arith, true≢false, inl, inr, append-nil, drop_more, same_Some, bytes_eq-Decides, and_parts, cases_Bool, eqb-true, false_from_ne_true, and-false, Name, name_eq, is_visible, is_label, is_label_byte, spaced, is_word, class_of, is_listed, are_listed, count_by, take, take-append-drop, drop-drop, get_or-drop, letters_from, more_labels, after_none, listed_count, Header, with_label, header_of, finish, get_or, length-drop, is_count_by}
+use Rattle.proof_code.proofs.Words.{◌≡◌, ℕ, zero, suc, ◌+◌, ◌-◌, ◌<◌, ◌≤◌, Bool, true, false, cond, ◌==◌, List, [], ◌∷◌, ◌++◌, length, drop, slice_index_or, Option, Some, None, refl, list_all, option_map, sym, ◌∙◌, ap, arith, true≢false, inl, inr, append-nil, drop_more, same_Some, bytes_eq-Decides, and_parts, cases_Bool, eqb-true, false_from_ne_true, and-false, Name, name_eq, is_visible, is_label, is_label_byte, spaced, is_word, class_of, is_label_byte_or_space, are_label_bytes_or_spaces, count_by, take, take-append-drop, drop-drop, get_or-drop, letters_after_parenthesis, more_labels, with_no_labels, listed_count, ListAndRest, with_label, list_and_rest, right_parenthesis, get_or, length-drop, is_count_by}
 use Rattle.proof_code.proofs.TextLemmas.{not_space}
 
 -- ---- the classes of bytes
@@ -18,8 +18,8 @@ label-no_space b h = false_from_ne_true (b == 32) (λ e. true≢false (sym (rw (
 
 -- the effect of a byte on the count, by its class
 listed_count-at : (fresh : Bool) (b : ℕ) (text : List ℕ) (class : ℕ) → class_of b ≡ class
-    → listed_count fresh (b ∷ text) ≡ cond (class == 0) (listed_count false text) (cond (class == 1) (more_labels 1 (listed_count true text)) (after_none fresh (letters_from (b ∷ text))))
-listed_count-at fresh b text class h = ap (λ c. cond (c == 0) (listed_count false text) (cond (c == 1) (more_labels 1 (listed_count true text)) (after_none fresh (letters_from (b ∷ text))))) h
+    → listed_count fresh (b ∷ text) ≡ cond (class == 0) (listed_count false text) (cond (class == 1) (more_labels 1 (listed_count true text)) (with_no_labels fresh (letters_after_parenthesis (b ∷ text))))
+listed_count-at fresh b text class h = ap (λ c. cond (c == 0) (listed_count false text) (cond (c == 1) (more_labels 1 (listed_count true text)) (with_no_labels fresh (letters_after_parenthesis (b ∷ text))))) h
 
 -- ---- a word, and the text after it
 
@@ -48,11 +48,11 @@ listed_count-after [] = refl
 listed_count-after (word ∷ words) = refl
 
 -- a single byte that is not `)`
-not_finish : (b : ℕ) → name_eq (b ∷ []) finish ≡ false → (b == 41) ≡ false
+not_finish : (b : ℕ) → name_eq (b ∷ []) right_parenthesis ≡ false → (b == 41) ≡ false
 not_finish b other = false_from_ne_true (b == 41) (λ e. true≢false (rw (eqb-true b 41 e) at other))
 
 -- a word other than `)` does not begin the letters
-letters-none : (b : ℕ) (word : Name) (words : List Name) → list_all is_visible word ≡ true → name_eq (b ∷ word) finish ≡ false → letters_from ((b ∷ word) ++ after_word words) ≡ None
+letters-none : (b : ℕ) (word : Name) (words : List Name) → list_all is_visible word ≡ true → name_eq (b ∷ word) right_parenthesis ≡ false → letters_after_parenthesis ((b ∷ word) ++ after_word words) ≡ None
 letters-none b [] [] seen other = rw (not_finish b other) refl
 letters-none b [] (next ∷ words) seen other = rw (not_finish b other) refl
 letters-none b (c ∷ word) words seen other =
@@ -68,36 +68,36 @@ listed_count-inside (b ∷ word) words seen h =
       | inr e ↦ listed_count-at false b (word ++ after_word words) 2 (class-other b e (not_space b parts.0))
     ]
 
-listed_count-none : (word : Name) (words : List Name) → is_word word ≡ true → is_label word ≡ false → name_eq word finish ≡ false → listed_count true (word ++ after_word words) ≡ None
+listed_count-none : (word : Name) (words : List Name) → is_word word ≡ true → is_label word ≡ false → name_eq word right_parenthesis ≡ false → listed_count true (word ++ after_word words) ≡ None
 listed_count-none [] words seen h other = absurd (true≢false (sym seen))
 listed_count-none (b ∷ word) words seen h other =
     let parts : (is_visible b ≡ true) × (list_all is_visible word ≡ true) = and_parts (is_visible b) (list_all is_visible word) seen in
     elim (cases_Bool (is_label_byte b)) [
       | inl e ↦ listed_count-at true b (word ++ after_word words) 0 (class-label b e) ∙ listed_count-inside word words parts.1 (rw e at h)
-      | inr e ↦ listed_count-at true b (word ++ after_word words) 2 (class-other b e (not_space b parts.0)) ∙ ap (after_none true) (letters-none b word words parts.1 other)
+      | inr e ↦ listed_count-at true b (word ++ after_word words) 2 (class-other b e (not_space b parts.0)) ∙ ap (with_no_labels true) (letters-none b word words parts.1 other)
     ]
 
-listed_count-finish : (words : List Name) → listed_count true (finish ++ after_word words) ≡ Some (0, spaced words)
-listed_count-finish [] = refl
-listed_count-finish (word ∷ words) = refl
+listed_count-right_parenthesis : (words : List Name) → listed_count true (right_parenthesis ++ after_word words) ≡ Some (0, spaced words)
+listed_count-right_parenthesis [] = refl
+listed_count-right_parenthesis (word ∷ words) = refl
 
 -- ---- the whole header
 
-abbrev told : Option Header → Option (ℕ × List ℕ)
-told o = option_map (λ (header : Header). (length header.listed, spaced header.rest)) o
+abbrev told : Option ListAndRest → Option (ℕ × List ℕ)
+told o = option_map (λ (header : ListAndRest). (length header.listed, spaced header.rest)) o
 
-told-more : (word : Name) (o : Option Header) → more_labels 1 (told o) ≡ told (option_map (with_label word) o)
+told-more : (word : Name) (o : Option ListAndRest) → more_labels 1 (told o) ≡ told (option_map (with_label word) o)
 told-more word None = refl
 told-more word (Some header) = ap (λ n. Some (n, spaced header.rest)) (let e : 1 + length header.listed ≡ length (word ∷ header.listed) = omega arith in e)
 
-listed_count-header : (words : List Name) → list_all is_word words ≡ true → listed_count true (spaced words) ≡ told (header_of words)
+listed_count-header : (words : List Name) → list_all is_word words ≡ true → listed_count true (spaced words) ≡ told (list_and_rest words)
 listed_count-header [] h = refl
 listed_count-header (word ∷ words) h =
     let parts : (is_word word ≡ true) × (list_all is_word words ≡ true) = and_parts (is_word word) (list_all is_word words) h in
-    rw (spaced-first word words) (elim (cases_Bool (name_eq word finish)) [
-      | inl e ↦ rw ((bytes_eq-Decides word finish).0 e) (listed_count-finish words)
+    rw (spaced-first word words) (elim (cases_Bool (name_eq word right_parenthesis)) [
+      | inl e ↦ rw ((bytes_eq-Decides word right_parenthesis).0 e) (listed_count-right_parenthesis words)
       | inr e ↦ elim (cases_Bool (is_label word)) [
-        | inl f ↦ rw (e, f) (listed_count-word word (after_word words) f ∙ (listed_count-after words ∙ (ap (more_labels 1) (listed_count-header words parts.1) ∙ told-more word (header_of words))))
+        | inl f ↦ rw (e, f) (listed_count-word word (after_word words) f ∙ (listed_count-after words ∙ (ap (more_labels 1) (listed_count-header words parts.1) ∙ told-more word (list_and_rest words))))
         | inr f ↦ rw (e, f) (listed_count-none word words parts.0 f e)
       ]
     ])
@@ -148,10 +148,10 @@ abbrev begins : Bool → List ℕ → Bool
 begins fresh [] = fresh
 begins fresh (b ∷ bytes) = begins (b == 32) bytes
 
-listed_count-listed : (fresh : Bool) (bytes text : List ℕ) → are_listed bytes ≡ true → listed_count fresh (bytes ++ text) ≡ more_labels (spaces_in bytes) (listed_count (begins fresh bytes) text)
+listed_count-listed : (fresh : Bool) (bytes text : List ℕ) → are_label_bytes_or_spaces bytes ≡ true → listed_count fresh (bytes ++ text) ≡ more_labels (spaces_in bytes) (listed_count (begins fresh bytes) text)
 listed_count-listed fresh [] text h = more-none (listed_count fresh text)
 listed_count-listed fresh (b ∷ bytes) text h =
-    let parts : (is_listed b ≡ true) × (are_listed bytes ≡ true) = and_parts (is_listed b) (are_listed bytes) h in
+    let parts : (is_label_byte_or_space b ≡ true) × (are_label_bytes_or_spaces bytes ≡ true) = and_parts (is_label_byte_or_space b) (are_label_bytes_or_spaces bytes) h in
     elim (cases_Bool (is_label_byte b)) [
       | inl e ↦ listed_count-at fresh b (bytes ++ text) 0 (class-label b e) ∙ (listed_count-listed false bytes text parts.1 ∙ ap found (sym (label-no_space b e)))
       | inr e ↦
@@ -177,7 +177,7 @@ module _ (text : List ℕ) (at count last : ℕ) (same : listed_count true text 
       begins-last (last == 32) 15 (drop at text) (omega (arith, room, length-drop at text))
       ∙ ap (λ b. b == 32) (get_or-drop at text 15 0 ∙ ap (λ n. get_or text n 0) (let e : at + 15 ≡ at + 16 - 1 = omega arith in e))
 
-  pub listed_count-lanes : (spaces : ℕ) → are_listed next ≡ true → spaces ≡ count_by is_space next
+  pub listed_count-lanes : (spaces : ℕ) → are_label_bytes_or_spaces next ≡ true → spaces ≡ count_by is_space next
       → listed_count true text ≡ more_labels (count + spaces) (listed_count (slice_index_or text (at + 16 - 1) 0 == 32) (drop (at + 16) text))
   listed_count-lanes spaces listed are =
       same ∙ (ap (λ r. more_labels count (listed_count (last == 32) r)) (sym (take-append-drop 16 (drop at text)))
@@ -189,23 +189,23 @@ module _ (text : List ℕ) (at count last : ℕ) (same : listed_count true text 
 
 -- ---- the answer
 
-told-none : (o : Option Header) → told o ≡ None → o ≡ None
+told-none : (o : Option ListAndRest) → told o ≡ None → o ≡ None
 told-none None e = refl
 told-none (Some header) e = cc
 
 -- a header is read, with this text after its labels and this number of labels
-abbrev pub Counted : Option Header → List ℕ → ℕ → Type 0
-Counted o letters count = (header : Header) × (o ≡ Some header) × (spaced header.rest ≡ letters) × (length header.listed ≡ count)
+abbrev pub Counted : Option ListAndRest → List ℕ → ℕ → Type 0
+Counted o letters count = (header : ListAndRest) × (o ≡ Some header) × (spaced header.rest ≡ letters) × (length header.listed ≡ count)
 
-told-some : (o : Option Header) (count : ℕ) (letters : List ℕ) → told o ≡ Some (count, letters) → Counted o letters count
+told-some : (o : Option ListAndRest) (count : ℕ) (letters : List ℕ) → told o ≡ Some (count, letters) → Counted o letters count
 told-some None count letters e = cc
 told-some (Some header) count letters e =
     let pair : (length header.listed, spaced header.rest) ≡ (count, letters) = same_Some (length header.listed, spaced header.rest) (count, letters) e in
     (header, refl, ap (λ p. p.1) pair, ap (λ p. p.0) pair)
 
-pub listing-none : (words : List Name) (text : List ℕ) → list_all is_word words ≡ true → text ≡ spaced words → listed_count true text ≡ None → header_of words ≡ None
-listing-none words text visible is none = told-none (header_of words) (sym (listed_count-header words visible) ∙ (ap (listed_count true) (sym is) ∙ none))
+pub listing-none : (words : List Name) (text : List ℕ) → list_all is_word words ≡ true → text ≡ spaced words → listed_count true text ≡ None → list_and_rest words ≡ None
+listing-none words text visible is none = told-none (list_and_rest words) (sym (listed_count-header words visible) ∙ (ap (listed_count true) (sym is) ∙ none))
 
 pub listing-some : (words : List Name) (text : List ℕ) (count : ℕ) (letters : List ℕ) → list_all is_word words ≡ true → text ≡ spaced words → listed_count true text ≡ Some (count, letters)
-    → Counted (header_of words) letters count
-listing-some words text count letters visible is some = told-some (header_of words) count letters (sym (listed_count-header words visible) ∙ (ap (listed_count true) (sym is) ∙ some))
+    → Counted (list_and_rest words) letters count
+listing-some words text count letters visible is some = told-some (list_and_rest words) count letters (sym (listed_count-header words visible) ∙ (ap (listed_count true) (sym is) ∙ some))

@@ -1,5 +1,5 @@
 -- Tokens write at most one list of items, and each proof has exactly one answer.
-use Rattle.proof_code.proofs.Words.{◌≡◌, ℕ, ◌⊎◌, Bool, true, false, List, [], ◌∷◌, ◌++◌, map, length, Option, Some, None, refl, list_all, sym, ◌∙◌, ap, true≢false, inl, inr, none-some, same_Some, bytes_eq-Decides, both_ways, cases_Bool, Name, is_label, Item, Cite, items_of, share_label, Header, header_of, numbers_from, starts_with_mark, begin, is_unfinished, is_compressed, WritesRow, WritesCompressed, WritesNormal, Writes, IsMalformed, WritesFinishedCompressed, OneAnswer}
+use Rattle.proof_code.proofs.Words.{◌≡◌, ℕ, ◌⊎◌, Bool, true, false, List, [], ◌∷◌, ◌++◌, map, length, Option, Some, None, refl, list_all, sym, ◌∙◌, ap, true≢false, inl, inr, none-some, same_Some, bytes_eq-Decides, both_ways, cases_Bool, Name, is_label, Item, Cite, items_of, share_label, ListAndRest, list_and_rest, numbers_from, starts_with_mark, left_parenthesis, is_unfinished, is_compressed, WritesRow, WritesCompressed, WritesNormal, Writes, IsMalformed, WritesFinishedCompressed, OneAnswer}
 use Rattle.proof_code.proofs.LetterItemLemmas.{RowIsRead, WritesRow-read, read-WritesRow}
 use Rattle.proof_code.proofs.RowOfNumbers.{joined}
 use Rattle.proof_code.proofs.WritesLemmas.{without_header, row_after, written_after}
@@ -43,18 +43,18 @@ without_first [] = []
 without_first (token ∷ tokens) = tokens
 
 -- a compressed proof begins with `(`
-begins_so : (tokens : List Name) → is_compressed tokens ≡ true → tokens ≡ begin ∷ without_first tokens
+begins_so : (tokens : List Name) → is_compressed tokens ≡ true → tokens ≡ left_parenthesis ∷ without_first tokens
 begins_so [] h = cc
-begins_so (token ∷ tokens) h = ap (λ t. t ∷ tokens) ((bytes_eq-Decides token begin).0 h)
+begins_so (token ∷ tokens) h = ap (λ t. t ∷ tokens) ((bytes_eq-Decides token left_parenthesis).0 h)
 
 -- a compressed proof writes one list of items, or none
 compressed_or_not : (tokens mandatory : List Name) → is_compressed tokens ≡ true → Written (WritesCompressed tokens mandatory)
-compressed_or_not tokens mandatory compressed = by (header_of (without_first tokens)) refl
+compressed_or_not tokens mandatory compressed = by (list_and_rest (without_first tokens)) refl
   where
-    starts : tokens ≡ begin ∷ without_first tokens
+    starts : tokens ≡ left_parenthesis ∷ without_first tokens
     starts = begins_so tokens compressed
 
-    by : (o : Option Header) → header_of (without_first tokens) ≡ o → Written (WritesCompressed tokens mandatory)
+    by : (o : Option ListAndRest) → list_and_rest (without_first tokens) ≡ o → Written (WritesCompressed tokens mandatory)
     by None none = inr (without_header tokens (without_first tokens) starts none mandatory)
     by (Some header) read = elim (cases_Bool (share_label mandatory header.listed)) [
       | inl e ↦ inr (λ items w. true≢false (sym e ∙ (row_after tokens (without_first tokens) starts header read mandatory items w).0))

@@ -1,5 +1,5 @@
 -- A compressed proof that is read without its mandatory labels.
-use Rattle.proof_code.proofs.Words.{◌≡◌, ℕ, ◌+◌, ◌-◌, ◌*◌, ◌^◌, ◌<◌, suc, ◌≤◌, true, false, cond, ◌==◌, nat_le, List, [], ◌∷◌, ◌++◌, length, take, drop, slice_index_or, Option, Some, None, refl, list_all, sym, ◌∙◌, ap, arith, true≢false, length-append, append_assoc, nat_tests, drop_more, list_all-append, none-some, and_parts, Name, is_word, AreWords, Item, items_of, before_rest, IsByteEffect, IsNextRead, is_last, value_after, ends_number, false_from_ne_true, share_label, IsHeading, Header, header_of, letters_of, starts_with_mark, numbers_from, begin, finish, WritesCompressed, take-append_seam}
+use Rattle.proof_code.proofs.Words.{◌≡◌, ℕ, ◌+◌, ◌-◌, ◌*◌, ◌^◌, ◌<◌, suc, ◌≤◌, true, false, cond, ◌==◌, nat_le, List, [], ◌∷◌, ◌++◌, length, take, drop, slice_index_or, Option, Some, None, refl, list_all, sym, ◌∙◌, ap, arith, true≢false, length-append, append_assoc, nat_tests, drop_more, list_all-append, none-some, and_parts, Name, is_word, AreWords, Item, items_of, before_rest, IsByteEffect, IsNextRead, is_last, value_after, ends_number, false_from_ne_true, share_label, IsHeadingWithNumbers, ListAndRest, list_and_rest, letters_of, starts_with_mark, numbers_from, left_parenthesis, right_parenthesis, WritesCompressed, take-append_seam}
 use Rattle.proof_code.proofs.LettersLemmas.{first_bounds, last_bounds}
 use Rattle.proof_code.proofs.LetterItemLemmas.{numbers_from-over, RowIsRead, WritesRow-read, read-WritesRow}
 use Rattle.proof_code.proofs.ListingLemmas.{Counted}
@@ -57,9 +57,9 @@ module _ (limit most digits byte : ℕ) (begun : digits ≤ most) (beyond : limi
 
 -- ---- the whole proof
 
-module _ (tokens before : List Name) (letters : List ℕ) (count : ℕ) (starts : tokens ≡ begin ∷ before) (visible : list_all is_word tokens ≡ true) (found : Counted (header_of before) letters count) where
+module _ (tokens before : List Name) (letters : List ℕ) (count : ℕ) (starts : tokens ≡ left_parenthesis ∷ before) (visible : list_all is_word tokens ≡ true) (found : Counted (list_and_rest before) letters count) where
   -- the header that was read
-  abbrev header : Header
+  abbrev header : ListAndRest
   header = found.0
 
   -- its parts are those of the definition
@@ -69,8 +69,8 @@ module _ (tokens before : List Name) (letters : List ℕ) (count : ℕ) (starts 
   -- the tokens after the `)` are words
   rest_visible : list_all is_word header.rest ≡ true
   rest_visible =
-      let all : list_all is_word (header.listed ++ finish ∷ header.rest) ≡ true = sym (ap (λ ws. list_all is_word (begin ∷ ws)) is.whole) ∙ (sym (ap (list_all is_word) starts) ∙ visible) in
-      (and_parts (list_all is_word header.listed) (list_all is_word header.rest) (sym (list_all-append is_word header.listed (finish ∷ header.rest)) ∙ all)).1
+      let all : list_all is_word (header.listed ++ right_parenthesis ∷ header.rest) ≡ true = sym (ap (λ ws. list_all is_word (left_parenthesis ∷ ws)) is.whole) ∙ (sym (ap (list_all is_word) starts) ∙ visible) in
+      (and_parts (list_all is_word header.listed) (list_all is_word header.rest) (sym (list_all-append is_word header.listed (right_parenthesis ∷ header.rest)) ∙ all)).1
 
   module _ (mandatory limit : ℕ) (limit_is : limit ≡ mandatory + count) where
     -- the bytes of the letters are those of the words after the `)`, joined
@@ -100,7 +100,7 @@ module _ (tokens before : List Name) (letters : List ℕ) (count : ℕ) (starts 
         none-some row.numbers (sym h ∙ (ap (numbers_from limit 0) letters_are ∙ (ap (λ l. numbers_from l 0 (joined header.rest)) (sym (numbered labels long)) ∙ row.read)))
 
     -- if the letters give numbers, the proof is read as its listed labels and these numbers
-    pub heading : (numbers : List ℕ) → starts_with_mark letters ≡ false → numbers_from limit 0 (letters_of letters) ≡ Some numbers → IsHeading tokens mandatory before count numbers
+    pub heading : (numbers : List ℕ) → starts_with_mark letters ≡ false → numbers_from limit 0 (letters_of letters) ≡ Some numbers → IsHeadingWithNumbers tokens mandatory before count numbers
     heading numbers first read = record {
       listed = header.listed;
       rest = header.rest;
@@ -115,10 +115,10 @@ module _ (tokens before : List Name) (letters : List ℕ) (count : ℕ) (starts 
 
 -- ---- with the mandatory labels
 
-module _ (tokens mandatory words : List Name) (many count : ℕ) (numbers : List ℕ) (many_is : many ≡ length mandatory) (h : IsHeading tokens many words count numbers) where
+module _ (tokens mandatory words : List Name) (many count : ℕ) (numbers : List ℕ) (many_is : many ≡ length mandatory) (h : IsHeadingWithNumbers tokens many words count numbers) where
   -- the first `count` words are the listed labels
   listed-is : take count words ≡ h.listed
-  listed-is = ap (take count) h.whole ∙ (ap (λ n. take n (h.listed ++ finish ∷ h.rest)) (sym h.many) ∙ take-append_seam h.listed (finish ∷ h.rest))
+  listed-is = ap (take count) h.whole ∙ (ap (λ n. take n (h.listed ++ right_parenthesis ∷ h.rest)) (sym h.many) ∙ take-append_seam h.listed (right_parenthesis ∷ h.rest))
 
   -- if one of them is a mandatory label, the proof writes nothing
   pub shared-none : share_label mandatory (take count words) ≡ true → (items : List Item) → WritesCompressed tokens mandatory items → ⊥

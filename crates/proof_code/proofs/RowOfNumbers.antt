@@ -1,5 +1,5 @@
 -- Letters that are read give the numbers of one row of words and marks, and the letters of each row are read.
-use Rattle.proof_code.proofs.Words.{◌≡◌, ℕ, zero, suc, ◌+◌, ◌-◌, ◌*◌, ◌<◌, ◌≤◌, false, true, cond, ◌&&◌, ◌==◌, nat_lt, nat_le, List, [], ◌∷◌, ◌++◌, flat_map, length, Option, Some, None, refl, get_or, option_map, sym, ◌∙◌, ap, arith, append_assoc, none-some, same_Some, slice_get-get_or, slice_get_within, get_or_from_slice_get, nat_tests, cond_both, and_parts, eqb-true, leb-true, ltb-true, ltb-false, lt-ltb, le-ltb, append-nil, Name, is_empty, Item, Cite, Recall, Mark, IsNumber, is_first, is_last, number_from, number_of, item_of, items_of, with_number, numbers_from, mark, AreItems}
+use Rattle.proof_code.proofs.Words.{◌≡◌, ℕ, zero, suc, ◌+◌, ◌-◌, ◌*◌, ◌<◌, ◌≤◌, false, true, cond, ◌&&◌, ◌==◌, nat_lt, nat_le, List, [], ◌∷◌, ◌++◌, flat_map, length, Option, Some, None, refl, get_or, option_map, sym, ◌∙◌, ap, arith, append_assoc, none-some, same_Some, slice_get-get_or, slice_get_within, get_or_from_slice_get, nat_tests, cond_both, and_parts, eqb-true, leb-true, ltb-true, ltb-false, lt-ltb, le-ltb, append-nil, Name, is_empty, Item, Cite, Recall, Mark, IsNumber, is_leading, is_last, number_after, number_of, item_of, items_of, with_number, numbers_from, mark_letter, AreItems}
 use Rattle.proof_code.proofs.LettersLemmas.{number_of-placed, placed-number_of, first_bounds, last_bounds}
 
 abbrev pub joined : List Name → List ℕ
@@ -9,12 +9,12 @@ joined row = flat_map (λ word. word) row
 
 -- a property of the numbers, if it holds for each kind of first letter
 pub by_letter : (P : Option (List ℕ) → Type 0) (limit digits letter : ℕ) (letters : List ℕ)
-    → (is_first letter ≡ true → P (numbers_from limit (5 * digits + (letter - 84)) letters))
-    → (is_first letter ≡ false → is_last letter ≡ true → P (with_number limit (20 * digits + (letter - 64)) (numbers_from limit 0 letters)))
+    → (is_leading letter ≡ true → P (numbers_from limit (5 * digits + (letter - 84)) letters))
+    → (is_leading letter ≡ false → is_last letter ≡ true → P (with_number limit (20 * digits + (letter - 64)) (numbers_from limit 0 letters)))
     → (letter ≡ 90 → digits ≡ 0 → P (option_map (λ numbers. 0 ∷ numbers) (numbers_from (limit + 1) 0 letters)))
-    → (is_first letter ≡ false → is_last letter ≡ false → P None) → P (numbers_from limit digits (letter ∷ letters))
+    → (is_leading letter ≡ false → is_last letter ≡ false → P None) → P (numbers_from limit digits (letter ∷ letters))
 by_letter P limit digits letter letters first last marks none =
-    cond_both (is_first letter) _ _ P first (λ f. cond_both (is_last letter) _ _ P (last f) (λ l. cond_both ((letter == 90) && (digits == 0)) _ _ P
+    cond_both (is_leading letter) _ _ P first (λ f. cond_both (is_last letter) _ _ P (last f) (λ l. cond_both ((letter == 90) && (digits == 0)) _ _ P
     (λ m. let parts : ((letter == 90) ≡ true) × ((digits == 0) ≡ true) = and_parts (letter == 90) (digits == 0) m in marks (eqb-true letter 90 parts.0) (eqb-true digits 0 parts.1))
     (λ m. none f l)))
 
@@ -41,13 +41,13 @@ means labels marks (suc n) word row items some within is rest =
 
 -- the letters `before` at the start of a word have the value `digits`
 pub record Begun (before : Name) (digits : ℕ) : Type 0 where
-  pub counts : (word : Name) → number_of (before ++ word) ≡ number_from digits word
+  pub counts : (word : Name) → number_of (before ++ word) ≡ number_after digits word
   pub none : digits ≡ 0 → before ≡ []
 
 pub begun-none : Begun [] 0
 begun-none = record { counts = λ word. refl; none = λ e. refl }
 
-begun-more : (before : Name) (digits letter : ℕ) → Begun before digits → is_first letter ≡ true → Begun (before ++ letter ∷ []) (5 * digits + (letter - 84))
+begun-more : (before : Name) (digits letter : ℕ) → Begun before digits → is_leading letter ≡ true → Begun (before ++ letter ∷ []) (5 * digits + (letter - 84))
 begun-more before digits letter begun first =
     let bounds : (85 ≤ letter) × (letter ≤ 89) = first_bounds letter first in
     record {
@@ -72,7 +72,7 @@ with_number-some limit number rest numbers =
 
 -- the last letter of a word
 read_last : (labels : List Name) (marks limit digits : ℕ) (before : Name) (letter : ℕ) (letters numbers : List ℕ) → limit ≡ length labels + marks → Begun before digits
-    → is_first letter ≡ false → is_last letter ≡ true → ((more : List ℕ) → numbers_from limit 0 letters ≡ Some more → ReadRow labels marks [] letters more)
+    → is_leading letter ≡ false → is_last letter ≡ true → ((more : List ℕ) → numbers_from limit 0 letters ≡ Some more → ReadRow labels marks [] letters more)
     → with_number limit (20 * digits + (letter - 64)) (numbers_from limit 0 letters) ≡ Some numbers → ReadRow labels marks before (letter ∷ letters) numbers
 read_last labels marks limit digits before letter letters numbers is begun first last ih h =
     let number : ℕ = 20 * digits + (letter - 64) in
@@ -80,7 +80,7 @@ read_last labels marks limit digits before letter letters numbers is begun first
     let got : (number ≤ limit) × ((more : List ℕ) × (numbers_from limit 0 letters ≡ Some more) × (number ∷ more ≡ numbers)) = with_number-some limit number (numbers_from limit 0 letters) numbers h in
     let read : ReadRow labels marks [] letters got.1.0 = ih got.1.0 got.1.1 in
     let word : Name = before ++ letter ∷ [] in
-    let ends : number_from digits (letter ∷ []) ≡ Some number = rw (first, last) refl in
+    let ends : number_after digits (letter ∷ []) ≡ Some number = rw (first, last) refl in
     rw (← got.1.2) (record {
       row = word ∷ read.row;
       whole = sym (append_assoc before (letter ∷ []) letters) ∙ ap (λ r. word ++ r) read.whole;
@@ -102,13 +102,13 @@ read_row labels marks limit digits before (letter ∷ letters) numbers is begun 
     (λ z none h.
     let got : (more : List ℕ) × (numbers_from (limit + 1) 0 letters ≡ Some more) × (0 ∷ more ≡ numbers) = option_map-some (λ numbers. 0 ∷ numbers) (numbers_from (limit + 1) 0 letters) numbers h in
     let read : ReadRow labels (marks + 1) [] letters got.0 = read_row labels (marks + 1) (limit + 1) 0 [] letters got.0 (omega (arith, is)) begun-none got.1 in
-    rw (← got.2, begun.none none, z) (record { row = mark ∷ read.row; whole = ap (λ r. mark ++ r) read.whole; means = (refl, read.means) }))
+    rw (← got.2, begun.none none, z) (record { row = mark_letter ∷ read.row; whole = ap (λ r. mark_letter ++ r) read.whole; means = (refl, read.means) }))
     (λ first last h. absurd (none-some numbers h))
 
 -- ---- complete: the numbers of a row are read
 
 -- the numbers of the letters of a word and of those after it
-numbers_from-word : (limit d number : ℕ) (word : Name) (rest : List ℕ) → number_from d word ≡ Some number → numbers_from limit d (word ++ rest) ≡ with_number limit number (numbers_from limit 0 rest)
+numbers_from-word : (limit d number : ℕ) (word : Name) (rest : List ℕ) → number_after d word ≡ Some number → numbers_from limit d (word ++ rest) ≡ with_number limit number (numbers_from limit 0 rest)
 numbers_from-word limit d number [] rest h = absurd (none-some number h)
 numbers_from-word limit d number (letter ∷ word) rest h =
     by_letter (λ o. o ≡ with_number limit number (numbers_from limit 0 rest)) limit d letter (word ++ rest)

@@ -1,15 +1,15 @@
 -- The table of the bytes, and the value that it gives for a byte and the digits before it.
-use Rattle.proof_code.proofs.Words.{◌≡◌, ℕ, ◌+◌, ◌-◌, ◌*◌, ◌<◌, ◌≤◌, true, false, cond, ◌==◌, [], refl, sym, ◌∙◌, ap, arith, map, get_or, range_with_len, get_or-map-range_with_len, cases_Bool, inl, inr, eqb-true, nat_tests, is_first, is_last, value_after, ends_number, digits_after, limit_after, ◌%◌, ◌^◌, bit_and, and_le_r, and_mask, ByteStep, STEPS}
+use Rattle.proof_code.proofs.Words.{◌≡◌, ℕ, ◌+◌, ◌-◌, ◌*◌, ◌<◌, ◌≤◌, true, false, cond, ◌==◌, [], refl, sym, ◌∙◌, ap, arith, map, get_or, range_with_len, get_or-map-range_with_len, cases_Bool, inl, inr, eqb-true, nat_tests, is_leading, is_last, value_after, ends_number, digits_after, limit_after, ◌%◌, ◌^◌, bit_and, and_le_r, and_mask, ByteStep, STEPS}
 use Rattle.proof_code.proofs.LettersLemmas.{first_bounds, last_bounds}
 
 -- the kind of a byte, as a property may depend on it
 pub by_kind : (P : Type 0) (byte : ℕ)
-    → (is_first byte ≡ true → P)
-    → (is_first byte ≡ false → is_last byte ≡ true → P)
+    → (is_leading byte ≡ true → P)
+    → (is_leading byte ≡ false → is_last byte ≡ true → P)
     → (byte ≡ 32 → P)
     → (byte ≡ 90 → P)
-    → (is_first byte ≡ false → is_last byte ≡ false → (byte == 32) ≡ false → (byte == 90) ≡ false → P) → P
-by_kind P byte first last space mark other = elim (cases_Bool (is_first byte)) [
+    → (is_leading byte ≡ false → is_last byte ≡ false → (byte == 32) ≡ false → (byte == 90) ≡ false → P) → P
+by_kind P byte first last space mark other = elim (cases_Bool (is_leading byte)) [
   | inl f ↦ first f
   | inr f ↦ elim (cases_Bool (is_last byte)) [
     | inl l ↦ last f l
@@ -27,7 +27,7 @@ by_kind P byte first last space mark other = elim (cases_Bool (is_first byte)) [
 
 -- one number for each kind of byte
 abbrev of_kind : ℕ → ℕ → ℕ → ℕ → ℕ → ℕ → ℕ
-of_kind first last space mark other byte = cond (is_first byte) first (cond (is_last byte) last (cond (byte == 32) space (cond (byte == 90) mark other)))
+of_kind first last space mark other byte = cond (is_leading byte) first (cond (is_last byte) last (cond (byte == 32) space (cond (byte == 90) mark other)))
 
 abbrev factor_of : ℕ → ℕ
 factor_of byte = of_kind 5 20 1 (2 ^ 64 - 1) 0 byte

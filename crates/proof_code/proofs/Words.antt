@@ -4,13 +4,13 @@ pub use Rattle.mm_lex.proofs.WordsLemmas.{word-visible}
 pub use Rattle.mm_lex.specs.Alphabet.{Name, has_byte, has_name, is_empty, is_label, is_label_byte, is_visible, name_eq}
 pub use Rattle.mm_lex.specs.Words.{AreWords, is_word, spaced, words_of}
 pub use Rattle.proof_code.specs.ItemNumbers.{item_of, items_of}
-pub use Rattle.proof_code.specs.LabelNames.{AreNames}
+pub use Rattle.proof_code.specs.LabelSets.{IsLabelSet}
 pub use Rattle.proof_code.specs.Laws.{OneAnswer}
-pub use Rattle.proof_code.specs.Letters.{IsNumber, first_letters, is_first, is_last, number_from, number_of, words_below, words_of_size}
-pub use Rattle.proof_code.specs.Listing.{are_listed, after_none, class_of, listed_count, is_listed, letters_from, more_labels}
-pub use Rattle.proof_code.specs.Reading.{IsByteEffect, IsHeading, IsNextRead, before_rest, digits_after, ended, ends_number, limit_after, share_label, value_after}
-pub use Rattle.proof_code.specs.Text.{Header, header_of, letters_of, numbers_from, starts_with_mark, with_label, with_number}
-pub use Rattle.proof_code.specs.Writes.{AreItems, IsMalformed, Writes, WritesCompressed, WritesNormal, WritesFinishedCompressed, WritesFinishedNormal, WritesRow, begin, finish, is_compressed, is_unfinished, mark, question_mark, starts_with_result}
+pub use Rattle.proof_code.specs.Letters.{IsNumber, leading_letters, is_leading, is_last, number_after, number_of, words_with_fewer_leading, words_with_leading}
+pub use Rattle.proof_code.specs.Listing.{are_label_bytes_or_spaces, with_no_labels, class_of, listed_count, is_label_byte_or_space, letters_after_parenthesis, more_labels}
+pub use Rattle.proof_code.specs.Reading.{IsByteEffect, IsHeadingWithNumbers, IsNextRead, before_rest, digits_after, ended, ends_number, limit_after, share_label, value_after}
+pub use Rattle.proof_code.specs.Text.{ListAndRest, list_and_rest, letters_of, numbers_from, starts_with_mark, with_label, with_number}
+pub use Rattle.proof_code.specs.Writes.{AreItems, IsMalformed, Writes, WritesCompressed, WritesNormal, WritesFinishedCompressed, WritesFinishedNormal, WritesRow, left_parenthesis, right_parenthesis, is_compressed, is_unfinished, mark_letter, question_mark, starts_with_result}
 pub use Rattle.proof_code.specs.declared.item.Item.{Item}
 pub use Rattle.proof_code.specs.declared.item.Item.TheVariants.{Cite, Mark, Recall}
 pub use Rattle.proof_code.specs.declared.byte_step.ByteStep.{ByteStep}

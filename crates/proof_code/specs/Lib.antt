@@ -3,6 +3,6 @@ pub mod Writes
 pub mod ItemNumbers
 pub mod Text
 pub mod Listing
-pub mod LabelNames
+pub mod LabelSets
 pub mod Reading
 pub mod Laws

@@ -9,9 +9,9 @@ use Rattle.std.specs.Option.{option_map}
 use Rattle.mm_lex.specs.Alphabet.{Name, has_name}
 use Rattle.proof_code.specs.declared.item.Item.{Item}
 use Rattle.proof_code.specs.ItemNumbers.{items_of}
-use Rattle.proof_code.specs.Letters.{is_first, is_last}
+use Rattle.proof_code.specs.Letters.{is_leading, is_last}
 use Rattle.proof_code.specs.Text.{letters_of, numbers_from}
-use Rattle.proof_code.specs.Writes.{finish, WritesCompressed}
+use Rattle.proof_code.specs.Writes.{right_parenthesis, WritesCompressed}
 
 -- these numbers before those of the rest
 abbrev pub before_rest : List ℕ → Option (List ℕ) → Option (List ℕ)
@@ -21,7 +21,7 @@ before_rest numbers rest = option_map (λ more. numbers ++ more) rest
 -- over every limit for a mark after digits, and for a byte that is neither a letter nor a space
 abbrev pub value_after : ℕ → ℕ → ℕ
 value_after digits byte =
-    if is_first byte then 5 * digits + (byte - 84)
+    if is_leading byte then 5 * digits + (byte - 84)
     else (if is_last byte then 20 * digits + (byte - 64)
     else (if byte == 32 then digits
     else (if byte == 90 then (if digits == 0 then 0 else 2 ^ 64 - digits) else 2 ^ 64 - 1)))
@@ -58,12 +58,12 @@ IsNextRead before limit digits byte after limit' digits' =
 abbrev pub share_label : List Name → List Name → Bool
 share_label mandatory listed = list_any (λ label. has_name label mandatory) listed
 
--- the proof lists the first `count` of the words; and for all mandatory labels of that number, it
--- writes the items of these numbers if none of the labels is listed, and no items if one is
-pub record IsHeading (tokens : List Name) (mandatory : ℕ) (words : List Name) (count : ℕ) (numbers : List ℕ) : Type 0 where
+-- the proof lists the first `count` of the words; for any mandatory labels, `mandatory` of them, it
+-- writes the items of these numbers if none of them is listed, and no items if one is
+pub record IsHeadingWithNumbers (tokens : List Name) (mandatory : ℕ) (words : List Name) (count : ℕ) (numbers : List ℕ) : Type 0 where
   pub listed : List Name
   pub rest : List Name
-  pub whole : words ≡ listed ++ finish ∷ rest
+  pub whole : words ≡ listed ++ right_parenthesis ∷ rest
   pub many : length listed ≡ count
   pub none_shared : (labels : List Name) → length labels ≡ mandatory → IsFalse (share_label labels listed) → WritesCompressed tokens labels (items_of (labels ++ listed) numbers)
   pub shared : (labels : List Name) → IsTrue (share_label labels listed) → (items : List Item) → ¬ WritesCompressed tokens labels items

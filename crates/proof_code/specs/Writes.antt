@@ -18,19 +18,19 @@ abbrev pub is_unfinished : List Name → Bool
 is_unfinished tokens = list_any (has_byte question_mark) tokens
 
 -- the parentheses around the listed labels, and the letter that marks
-abbrev pub begin : Name
-begin = codes "("
+abbrev pub left_parenthesis : Name
+left_parenthesis = codes "("
 
-abbrev pub finish : Name
-finish = codes ")"
+abbrev pub right_parenthesis : Name
+right_parenthesis = codes ")"
 
-abbrev pub mark : Name
-mark = codes "Z"
+abbrev pub mark_letter : Name
+mark_letter = codes "Z"
 
 -- the first token is `(`
 abbrev pub is_compressed : List Name → Bool
 is_compressed [] = false
-is_compressed (token ∷ tokens) = name_eq token begin
+is_compressed (token ∷ tokens) = name_eq token left_parenthesis
 
 -- a number cites a label, counted from 1, or, if greater than their count, recalls one of the
 -- results marked so far
@@ -44,7 +44,7 @@ abbrev pub AreItems : List Name → ℕ → List Name → List Item → Type 0
 AreItems labels marks [] [] = Unit {0}
 AreItems labels marks [] (item ∷ items) = ⊥
 AreItems labels marks (word ∷ row) [] = ⊥
-AreItems labels marks (word ∷ row) (Mark ∷ items) = (word ≡ mark) × AreItems labels (marks + 1) row items
+AreItems labels marks (word ∷ row) (Mark ∷ items) = (word ≡ mark_letter) × AreItems labels (marks + 1) row items
 AreItems labels marks (word ∷ row) (item ∷ items) =
     (number : ℕ) × IsNumber word number × Denotes labels marks number item × AreItems labels marks row items
 
@@ -66,7 +66,7 @@ pub record WritesRow (labels : List Name) (letters : List ℕ) (items : List Ite
 pub record WritesCompressed (tokens mandatory : List Name) (items : List Item) : Type 0 where
   pub listed : List Name
   pub rest : List Name
-  pub whole : tokens ≡ begin ∷ (listed ++ finish ∷ rest)
+  pub whole : tokens ≡ left_parenthesis ∷ (listed ++ right_parenthesis ∷ rest)
   pub labels : IsTrue (list_all is_label listed)
   pub none_shared : IsFalse (list_any (λ label. has_name label mandatory) listed)
   pub letters : WritesRow (mandatory ++ listed) (flat_map (λ token. token) rest) items

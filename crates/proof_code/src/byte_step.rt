@@ -24,13 +24,13 @@ pub(crate) struct ByteStep {
 }
 
 /// All bits.
-const ALL: usize = usize::MAX;
+const ALL_BITS: usize = usize::MAX;
 
 /// The step of a byte that is neither a letter nor a space: its value is over every limit.
 const INVALID: ByteStep = ByteStep {
     factor: 0,
-    added: ALL,
-    mask: ALL,
+    added: ALL_BITS,
+    mask: ALL_BITS,
     ends: 0,
     marks: 0,
     unused: [0; 3],
@@ -40,7 +40,7 @@ const INVALID: ByteStep = ByteStep {
 const SPACE: ByteStep = ByteStep {
     factor: 1,
     added: 0,
-    mask: ALL,
+    mask: ALL_BITS,
     ends: 0,
     marks: 0,
     unused: [0; 3],
@@ -100,7 +100,7 @@ const T: ByteStep = ByteStep { added: 20, ..A };
 const U: ByteStep = ByteStep {
     factor: 5,
     added: 1,
-    mask: ALL,
+    mask: ALL_BITS,
     ends: 0,
     marks: 0,
     unused: [0; 3],
@@ -116,7 +116,7 @@ const Y: ByteStep = ByteStep { added: 5, ..U };
 
 /// The step of `Z`, the mark.
 const Z: ByteStep = ByteStep {
-    factor: ALL,
+    factor: ALL_BITS,
     added: 0,
     mask: 0,
     ends: 1,

@@ -3,7 +3,7 @@ ghost use Rattle.std.specs.Prelude.{◌≡◌, ◌↔◌, ◌<◌, ◌≤◌, �
 ghost use Rattle.mm_lex.specs.Alphabet.{has_name};
 ghost use Rattle.proof_code.specs.Writes.{is_unfinished, is_compressed, WritesFinishedCompressed, IsMalformed};
 ghost use Rattle.proof_code.specs.Reading.{share_label};
-ghost use Rattle.proof_code.specs.LabelNames.{AreNames};
+ghost use Rattle.proof_code.specs.LabelSets.{IsLabelSet};
 
 use crate::fault::{CodeFault, is_unfinished};
 use crate::items::Items;
@@ -67,7 +67,7 @@ fn shares_label(alloc: Global, mandatory: &Words, words: WordIter<'_>, count: us
     ensures { result ≡ share_label mandatory.now (take count words.entry) }
 {
     let mut listed = words.take(count);
-    match names_of(alloc, mandatory) {
+    match label_set(alloc, mandatory) {
         Some(names) => listed.any(|label| names.contains(label)),
         None => listed.any(|label| is_among(label, mandatory)),
     }
@@ -84,8 +84,8 @@ fn is_among(label: &[u8], labels: &Words) -> bool
 ///
 /// Cost: the size of the labels, times the logarithm of their number.
 #[tactic(auto, using(crate::proofs::LabelNameLemmas::names_more))]
-pub fn names_of<'a>(alloc: Global, labels: &'a Words) -> Option<BTreeSet<&'a [u8]>>
-    ensures { IfSome result (λ names. AreNames names labels.entry.now) }
+pub fn label_set<'a>(alloc: Global, labels: &'a Words) -> Option<BTreeSet<&'a [u8]>>
+    ensures { IfSome result (λ names. IsLabelSet names labels.entry.now) }
 {
     let mut names = BTreeSet::new(alloc);
     let mut left = labels.iter();

@@ -13,7 +13,7 @@ pub enum CodeFault {
     Unfinished,
     /// No token has the byte `?`, and the tokens write no items.
     Malformed,
-    /// An allocation failed, or there are too many labels or letters (`MAX_LETTERS`).
+    /// An allocation failed, or there are too many labels or letters (`MAX_LABELS_OR_LETTERS`).
     Memory,
 }
 

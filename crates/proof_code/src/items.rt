@@ -32,7 +32,7 @@ impl Model for Items {
 /// labels are the mandatory ones and then the listed ones, and the numbers are those that the
 /// letters write; in a normal proof the labels are the tokens.
 #[derive(Clone, Copy)]
-pub struct Parts<'a> {
+pub struct ItemParts<'a> {
     /// The labels that may be cited.
     pub labels: &'a Words,
     /// The number of each item.
@@ -48,10 +48,10 @@ impl Items {
     }
 
     /// Returns the labels and the numbers.
-    pub fn parts(&self) -> Parts<'_>
+    pub fn parts(&self) -> ItemParts<'_>
         ensures { items_of result.labels.now result.numbers.now ≡ self.now }
     {
-        Parts {
+        ItemParts {
             labels: &self.labels,
             numbers: self.numbers.as_slice(),
         }

@@ -12,8 +12,8 @@ use crate::byte_step::STEPS;
 /// The bits of a number that is stored.
 const NUMBER_BITS: usize = 0xffff_ffff;
 
-/// Returns the value of the digits with a byte after them. It is over every limit if the byte
-/// cannot stand there.
+/// Returns the value of the digits with a byte after them. It is over every limit if the byte is
+/// not allowed there.
 #[inline(always)]
 fn value_after(digits: usize, byte: u8) -> usize
     requires { 20 * digits + 26 < 2 ^ 64 }
@@ -42,21 +42,21 @@ struct LetterState {
 }
 
 impl LetterState {
-    /// Returns `Some` if the digits may have this value with the byte after them, or `None` if the
-    /// letters with this byte write no numbers, whatever follows.
+    /// Tests `value`, that of the digits with the byte after them. Returns `None` if letters that
+    /// go on with this byte write no list of numbers, whatever follows it, else `Some`.
     ///
     /// A word with digits over `digits_limit` has a number over the limit, however it ends.
     #[inline(always)]
     fn check(&self, byte: u8, value: usize, digits_limit: usize) -> Option<()>
         requires value { value ≡ value_after self.now.digits byte }
-        requires begun { self.now.digits ≤ digits_limit }
+        requires digits_in_range { self.now.digits ≤ digits_limit }
         requires digits_limit { self.now.limit < 20 * digits_limit + 20 }
         requires small { 20 * digits_limit + 26 < 2 ^ 64 }
-        requires beyond { self.now.limit + digits_limit < 2 ^ 64 }
+        requires no_overflow { self.now.limit + digits_limit < 2 ^ 64 }
         ensures some { IfSome result (λ _. IsByteEffect self.now.limit self.now.digits byte (ended byte value) (limit_after self.now.limit byte) (digits_after byte value)) }
         ensures none { IfNone result ((text : List ℕ) → numbers_from self.now.limit self.now.digits (letters_of (byte ∷ text)) ≡ None) }
         ensures within { IfSome result (λ _. value ≤ max self.now.limit digits_limit) }
-        ensures begun { IfSome result (λ _. digits_after byte value ≤ digits_limit) }
+        ensures digits_in_range { IfSome result (λ _. digits_after byte value ≤ digits_limit) }
     {
         let bound = if count_ended(byte) == 1 {
             self.limit
@@ -66,9 +66,9 @@ impl LetterState {
         if value > bound { None } else { Some(()) }
     }
 
-    /// Goes past a byte, with which the digits have this value.
+    /// Advances past a byte. `value` is that of the digits with the byte after them.
     #[inline(always)]
-    fn pass(&mut self, byte: u8, value: usize)
+    fn advance(&mut self, byte: u8, value: usize)
         requires { self.old.limit + 1 < 2 ^ 64 }
         ensures limit { self.new.limit ≡ limit_after self.old.limit byte }
         ensures digits { self.new.digits ≡ digits_after byte value }
@@ -79,34 +79,34 @@ impl LetterState {
         self.limit += step.marks;
     }
 
-    /// Goes past a byte, and stores the value of the digits with it after the first `count`
-    /// numbers. Returns how many numbers there are then, or `None` if the letters with this byte
-    /// write no numbers, whatever follows.
+    /// Advances past a byte, and stores the value of the digits with it after the first `count`
+    /// numbers. Returns the new count of numbers, or `None` if letters that go on with this byte
+    /// write no list of numbers, whatever follows it.
     ///
     /// The value is stored before it is tested, since the compiler then adds to the count with one
     /// instruction instead of two.
     #[inline(always)]
     fn write_next(&mut self, byte: u8, count: usize, numbers: &mut [u32]) -> Option<usize>
-        requires begun { self.old.digits ≤ self.old.limit }
+        requires digits_in_range { self.old.digits ≤ self.old.limit }
         requires small { self.old.limit + 1 < 2 ^ 32 }
         requires room { count < length numbers.old }
         ensures some { IfSome result (λ next. IsNextRead (take count numbers.old) self.old.limit self.old.digits byte (take next numbers.new) self.new.limit self.new.digits) }
         ensures none { IfNone result ((text : List ℕ) → numbers_from self.old.limit self.old.digits (letters_of (byte ∷ text)) ≡ None) }
         ensures within { IfSome result (λ next. next ≤ count + 1) }
         ensures limit { self.new.limit ≤ self.old.limit + 1 }
-        ensures begun { IfSome result (λ _. self.new.digits ≤ self.new.limit) }
+        ensures digits_in_range { IfSome result (λ _. self.new.digits ≤ self.new.limit) }
     {
         let value = value_after(self.digits, byte);
         numbers[count] = (value & NUMBER_BITS) as u32;
         self.check(byte, value, self.limit)?;
-        self.pass(byte, value);
+        self.advance(byte, value);
         Some(count + count_ended(byte))
     }
 }
 
-/// Stores the numbers that the letters of a text write, if there are `labels` labels, and returns
-/// how many there are, or `None` if the letters write no numbers. Spaces may be anywhere among the
-/// letters.
+/// Stores the numbers that the letters of a text write for a proof with `labels` labels. Returns
+/// the count of numbers, or `None` if the letters write no list of numbers. Spaces may be anywhere
+/// among the letters.
 ///
 /// For each byte it stores the value of the word, and overwrites it unless the byte ends a number.
 /// It reads four bytes in each turn of the loop, which share the instructions of the loop itself.
@@ -137,7 +137,7 @@ pub(crate) fn write_numbers(text: &[u8], labels: usize, numbers: &mut [u32]) -> 
     if state.digits == 0 { Some(count) } else { None }
 }
 
-/// Returns `Some` if the letters write numbers, else `None`, without storing them.
+/// Returns `Some` if the letters write a list of numbers, else `None`. Does not store them.
 pub(crate) fn check_letters(text: &[u8], labels: usize) -> Option<()>
     requires { labels + length text.now < 3 * 2 ^ 62 }
     ensures { MatchOption result (numbers_from labels 0 (letters_of text.now) ≡ None)
@@ -151,7 +151,7 @@ pub(crate) fn check_letters(text: &[u8], labels: usize) -> Option<()>
     for &byte in text {
         let value = value_after(state.digits, byte);
         state.check(byte, value, digits_limit)?;
-        state.pass(byte, value);
+        state.advance(byte, value);
     }
     if state.digits == 0 { Some(()) } else { None }
 }

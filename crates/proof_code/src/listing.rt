@@ -1,15 +1,15 @@
 //! Counts the labels that a compressed proof lists, sixteen bytes at a time.
 ghost use Rattle.std.specs.Prelude.{◌≡◌, ◌==◌, ◌+◌, ◌≤◌, length, take, MatchOption, IfSome, None, Some, true};
 ghost use Rattle.std.specs.List.{count_by};
-ghost use Rattle.proof_code.specs.Listing.{are_listed, class_of, listed_count};
+ghost use Rattle.proof_code.specs.Listing.{are_label_bytes_or_spaces, class_of, listed_count};
 
 use std::simd::prelude::*;
 
 /// How many bytes are compared at once.
 const LANES: usize = 16;
 
-/// Returns how many labels precede the word `)`, and the letters after it, or `None` if there is no
-/// `)` or if a word before it is not a label.
+/// Returns the count of the labels before the word `)`, and the letters after it, or `None` if
+/// there is no `)` or if a word before it is not a label.
 pub(crate) fn count_listed(text: &[u8]) -> Option<(usize, &[u8])>
     ensures listed_count { MatchOption result (listed_count true text.now ≡ None) (λ r. listed_count true text.now ≡ Some (r.0, r.1.now)) }
     ensures within { IfSome result (λ r. r.0 + length r.1.now ≤ length text.now) }
@@ -29,7 +29,7 @@ pub(crate) fn count_listed(text: &[u8]) -> Option<(usize, &[u8])>
     Some((count + more, letters))
 }
 
-/// Returns what `count_listed` does, but reads byte by byte; `last` is the byte before the text.
+/// Returns the same as `count_listed`, byte by byte. `last` is the byte before the text.
 fn count_by_byte(text: &[u8], last: u8) -> Option<(usize, &[u8])>
     ensures listed_count { MatchOption result (listed_count (last == 32) text.now ≡ None) (λ r. listed_count (last == 32) text.now ≡ Some (r.0, r.1.now)) }
     ensures within { IfSome result (λ r. r.0 + length r.1.now ≤ length text.now) }
@@ -58,7 +58,7 @@ fn count_by_byte(text: &[u8], last: u8) -> Option<(usize, &[u8])>
 /// nor a space.
 fn count_in_lanes(text: &[u8]) -> Option<usize>
     requires room { 16 ≤ length text.now }
-    ensures listed { IfSome result (λ spaces. are_listed (take 16 text.now) ≡ true) }
+    ensures listed { IfSome result (λ spaces. are_label_bytes_or_spaces (take 16 text.now) ≡ true) }
     ensures few { IfSome result (λ spaces. spaces ≤ 16) }
     ensures spaces { IfSome result (λ spaces. spaces ≡ count_by (λ b. b == 32) (take 16 text.now)) }
 {

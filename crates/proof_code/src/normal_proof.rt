@@ -32,6 +32,7 @@ pub fn normal(alloc: Global, tokens: &Words) -> Result<Items, CodeFault>
     }
 }
 
+/// Returns whether each token is a label.
 fn are_labels(tokens: &Words) -> bool
     ensures { result ≡ list_all is_label tokens.now }
 {
@@ -46,8 +47,8 @@ fn cite_all(alloc: Global, labels: &Words) -> Result<Items, AllocError>
         return Err(AllocError);
     };
     let mut numbers = Vec::with_capacity(alloc, count as usize)?;
-    for before in 0..count {
-        numbers.push(before + 1)?;
+    for index in 0..count {
+        numbers.push(index + 1)?;
     }
     Ok(Items::from_parts(labels.copy(alloc)?, numbers))
 }

@@ -3,8 +3,8 @@ ghost use Rattle.std.specs.Prelude.{◌≡◌, ℕ, ◌+◌, ◌*◌, ◌^◌, �
 ghost use Rattle.mm_lex.specs.Alphabet.{Name};
 ghost use Rattle.proof_code.specs.declared.item.Item.{Item};
 ghost use Rattle.proof_code.specs.Text.{letters_of, numbers_from};
-ghost use Rattle.proof_code.specs.Writes.{begin, is_compressed, WritesCompressed};
-ghost use Rattle.proof_code.specs.Reading.{IsHeading};
+ghost use Rattle.proof_code.specs.Writes.{left_parenthesis, is_compressed, WritesCompressed};
+ghost use Rattle.proof_code.specs.Reading.{IsHeadingWithNumbers};
 
 use crate::letter_numbers::{check_letters, starts_with_mark, write_numbers};
 use crate::listing::count_listed;
@@ -14,7 +14,7 @@ use std::marker::Model;
 
 /// The largest number of labels of one proof, mandatory and listed, and the largest size of its
 /// letters, the spaces among them included. More are reported as a failed allocation.
-pub const MAX_LETTERS: usize = 1 << 30;
+pub const MAX_LABELS_OR_LETTERS: usize = 1 << 30;
 
 /// Reads compressed proofs, one after another. Contracts see the numbers of the last one.
 #[derive(Drop)]
@@ -55,7 +55,7 @@ impl Reader {
         }
     }
 
-    /// Returns the numbers of the last proof that was read, as `Parts` has them.
+    /// Returns the numbers of the items of the last proof that was read (`ItemParts`).
     pub fn numbers(&self) -> &[u32]
         ensures { result.now ≡ self.now }
     {
@@ -69,8 +69,8 @@ impl Reader {
     /// The proof writes these items only if no listed label is a mandatory one, which the caller
     /// has to test.
     ///
-    /// Errors: an allocation fails, or there are more labels or letters than `MAX_LETTERS`; the
-    /// numbers are then unchanged.
+    /// Errors: an allocation fails, or there are more labels or letters than
+    /// `MAX_LABELS_OR_LETTERS`; the numbers are then unchanged.
     /// Cost: the size of the tokens. Source: Metamath, appendix B.
     pub fn read<'a>(
         &mut self,
@@ -80,10 +80,10 @@ impl Reader {
         requires { IsTrue (is_compressed tokens.now) }
         ensures read { IfOk result (λ found. MatchOption found
             ((labels : List Name) → length labels ≡ mandatory → (items : List Item) → ¬ WritesCompressed tokens.now labels items)
-            (λ heading. IsHeading tokens.now mandatory heading.words heading.count self.new)) }
+            (λ heading. IsHeadingWithNumbers tokens.now mandatory heading.words heading.count self.new)) }
         ensures same { OnErr result (self.new ≡ self.old) }
     {
-        if mandatory > MAX_LETTERS {
+        if mandatory > MAX_LABELS_OR_LETTERS {
             return Err(AllocError);
         }
         let Some((heading, kept)) = self.read_or_check(tokens, mandatory) else {
@@ -93,9 +93,9 @@ impl Reader {
         Ok(Some(heading))
     }
 
-    /// Reads a proof as `read` does, but also checks it if an allocation fails: returns the listed
-    /// labels with `Ok` if it keeps the numbers, or with `Err` if it cannot, and `None` for a proof
-    /// that writes no items, even if every allocation fails.
+    /// Reads a proof as `read` does, but checks it even if every allocation fails. Returns the
+    /// listed labels with `Ok` if the numbers are kept, with `Err` if an allocation failed, and
+    /// `None` if the proof writes no items.
     pub(crate) fn read_or_check<'a>(
         &mut self,
         tokens: &'a Words,
@@ -105,7 +105,7 @@ impl Reader {
         requires few { mandatory ≤ 2 ^ 62 }
         ensures read { MatchOption result
             ((labels : List Name) → length labels ≡ mandatory → (items : List Item) → ¬ WritesCompressed tokens.now labels items)
-            (λ found. (tokens.now ≡ begin ∷ found.0.words) × (numbers : List ℕ) × IsHeading tokens.now mandatory found.0.words found.0.count numbers × OnOk found.1 (numbers ≡ self.new)) }
+            (λ found. (tokens.now ≡ left_parenthesis ∷ found.0.words) × (numbers : List ℕ) × IsHeadingWithNumbers tokens.now mandatory found.0.words found.0.count numbers × OnOk found.1 (numbers ≡ self.new)) }
         ensures same { IfSome result (λ found. OnErr found.1 (self.new ≡ self.old)) }
     {
         let mut words = tokens.iter();
@@ -143,7 +143,7 @@ fn make_room(buffer: &mut Vec<u32>, labels: usize, letters: usize) -> Result<(),
     ensures few { OnOk result (labels + letters < 2 ^ 32) }
     ensures same { OnErr result (buffer.new.items ≡ buffer.old.items) }
 {
-    if labels > MAX_LETTERS || letters > MAX_LETTERS {
+    if labels > MAX_LABELS_OR_LETTERS || letters > MAX_LABELS_OR_LETTERS {
         return Err(AllocError);
     }
     if buffer.len() < letters {

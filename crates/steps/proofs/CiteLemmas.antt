@@ -1,8 +1,8 @@
 -- The step that a citation adds to a table, if a run cites the same.
-use Rattle.steps.proofs.Words.{◌≡◌, ℕ, zero, suc, ◌-◌, ◌<◌, ◌≤◌, List, [], ◌∷◌, ◌++◌, length, map, drop, get_or, slice_get, Some, refl, sym, ◌∙◌, ap, subst, arith, inl, inr, length-map, map-append, get_or_from_slice_get, Name, Stmt, Expr, Database, stmt_at, before, expr_of, is_assertion, decode, Float, AssertionView, AreBelow, AllBelow, IsWellTyped, IsViewOf, HasAssertion, hypotheses, Carries, IsHypothesis, IsInstance, premises, HasLegalProperties, Cite, below-drop, IsTyped, AreRead, AreDifferent, AreNamed, Results, State, Cites, Steps, with_result, below, top, required-lengths, required-different, Meets, meets-step, read-over, cited-plain, append_cut, length-premises, not_both, apply-below, halves, length-top, map-drop, Row, no_row, expr_in, Follows, from_hypothesis, from_assertion, AreRows, row_of, rows_of, codes_in, progress_of, IsDraft, AgreesWithRun, GivesHypothesis, GivesAssertion, TableDraft, some-same, below-take}
+use Rattle.steps.proofs.Words.{◌≡◌, ℕ, zero, suc, ◌-◌, ◌<◌, ◌≤◌, List, [], ◌∷◌, ◌++◌, length, map, drop, get_or, slice_get, Some, refl, sym, ◌∙◌, ap, subst, arith, inl, inr, length-map, map-append, get_or_from_slice_get, Name, Stmt, Expr, Database, stmt_at, before, expr_of, is_assertion, decode, Float, AssertionView, AreBelow, AllBelow, IsWellTyped, IsViewOf, HasAssertion, hypotheses, Carries, IsHypothesis, IsInstance, premises, HasLegalProperties, Cite, below-drop, IsTyped, AreRead, AreDifferent, AreNamed, Results, State, Cites, Steps, with_result, below, top, required-lengths, required-different, Meets, meets-step, read-over, cited-plain, append_cut, length-premises, not_both, apply-below, halves, length-top, map-drop, Row, no_row, expr_in, Follows, from_hypothesis, from_assertion, AreRows, row_of, rows_of, codes_in, progress_of, IsDraft, AgreesWithRun, CitesHypothesis, CitesAssertion, TableDraft, some-same, below-take}
 use Rattle.frame.specs.Substitution.{Images, CodeImages, apply as applied, code_apply}
 use Rattle.verify.specs.Machine.{of_hypothesis, of_assertion}
-use Rattle.steps.specs.StepTable.{Step, stands, of_hypothesis as makes_hypothesis, of_assertion as makes_assertion, RecordsItem}
+use Rattle.steps.specs.StepTable.{Step, was_there, of_hypothesis as makes_hypothesis, of_assertion as makes_assertion, RecordsItem}
 use Rattle.steps.specs.StepTable as table
 use Rattle.steps.proofs.PlacingLemmas.{found-draft, found-placed, found-tied, made-draft, made-placed, made-tied}
 
@@ -47,25 +47,25 @@ module _ (S : Database) (at : ℕ) (names : List Name) (legal : HasLegalProperti
         let same : t ≡ s = some-same carries'.stands (ap (stmt_at S) (legal.once a i t s label carries' carries) ∙ carries.stands) in
         absurd (not_both s active.kind (ap is_assertion (sym same) ∙ fits.assertion))
 
-    hypothesis-draft' : (new : TableDraft) → GivesHypothesis d new i codes → IsDraft S at names new
+    hypothesis-draft' : (new : TableDraft) → CitesHypothesis d new i codes → IsDraft S at names new
     hypothesis-draft' new (inl finds) = found-draft S at names legal d new is h_step d.stack.items (expr_of s) finds is.stack_below hypothesis-same
     hypothesis-draft' new (inr makes) = made-draft S at names legal d new is h_step d.stack.items codes makes is.stack_below tt (from_hypothesis s active refl named) low
 
-    hypothesis-tied' : (new : TableDraft) → GivesHypothesis d new i codes → (b : List Expr) (f : Expr) → (st.stack ≡ b) × (f ≡ expr_of s) → IsRecorded S at names d label new (with_result st b f)
+    hypothesis-tied' : (new : TableDraft) → CitesHypothesis d new i codes → (b : List Expr) (f : Expr) → (st.stack ≡ b) × (f ≡ expr_of s) → IsRecorded S at names d label new (with_result st b f)
     hypothesis-tied' new (inl finds) b f (whole, gives) = (
       (d.stack.items, h_step, finds.place, makes_hypothesis s carries active refl refl, found-placed S at names legal d new is h_step d.stack.items (expr_of s) finds is.stack_below hypothesis-same, finds.stack, finds.saved),
       found-tied S at names legal d new is h_step d.stack.items f finds is.stack_below (λ r e x. hypothesis-same r e x ∙ sym gives) st b tied (tied.stack ∙ whole),
     )
     hypothesis-tied' new (inr makes) b f (whole, gives) =
         let follows = from_hypothesis s active refl named in (
-          (d.stack.items, h_step, length d.placed.items, makes_hypothesis s carries active refl refl, made-placed S at names legal d new is h_step d.stack.items codes makes is.stack_below tt follows low, makes.stack, makes.saved),
+          (d.stack.items, h_step, length d.stored.items, makes_hypothesis s carries active refl refl, made-placed S at names legal d new is h_step d.stack.items codes makes is.stack_below tt follows low, makes.stack, makes.saved),
           made-tied S at names legal d new is h_step d.stack.items codes makes is.stack_below tt follows low st b f tied (tied.stack ∙ whole) (named ∙ sym gives),
         )
 
-    pub hypothesis-draft : (new : TableDraft) → GivesHypothesis d new i codes → IsDraft S at names new
+    pub hypothesis-draft : (new : TableDraft) → CitesHypothesis d new i codes → IsDraft S at names new
     hypothesis-draft = hypothesis-draft'
 
-    pub hypothesis-done : (new : TableDraft) → GivesHypothesis d new i codes → (next : State) → Steps S at st (Cite label) next → IsRecorded S at names d label new next
+    pub hypothesis-done : (new : TableDraft) → CitesHypothesis d new i codes → (next : State) → Steps S at st (Cite label) next → IsRecorded S at names d label new next
     hypothesis-done new gives next run = subst (IsRecorded S at names d label new) (sym run.3) (hypothesis-tied' new gives run.0 run.1 (run-hypothesis run.0 run.1 run.2))
 
   -- ---- an assertion
@@ -85,11 +85,11 @@ module _ (S : Database) (at : ℕ) (names : List Name) (legal : HasLegalProperti
     bound = legal.well_typed a s has
 
     -- there are as many rows as placed steps
-    count' : length rows' ≡ length d.placed.items
-    count' = length-map d.placed.items (row_of d.symbols)
+    count' : length rows' ≡ length d.stored.items
+    count' = length-map d.stored.items (row_of d.symbols)
 
     -- a place of a placed step is the place of a row
-    in_rows : (ks : List ℕ) → AreBelow (length d.placed.items) ks → AreBelow (length rows') ks
+    in_rows : (ks : List ℕ) → AreBelow (length d.stored.items) ks → AreBelow (length rows') ks
     in_rows ks b = subst (λ m. AreBelow m ks) (sym count') b
 
     -- the symbol numbers of the results on the stack and of the marked results are below the count of names
@@ -158,12 +158,12 @@ module _ (S : Database) (at : ℕ) (names : List Name) (legal : HasLegalProperti
         record { images = r.0; fits = r.1; front = cut.0; takes = cut.1; gives = r.3 }
 
     -- the steps that stay on the stack are in the table
-    low_rest : AreBelow (length d.placed.items) (below n d.stack.items)
-    low_rest = below-take (length d.placed.items) (length d.stack.items - n) d.stack.items is.stack_below
+    low_rest : AreBelow (length d.stored.items) (below n d.stack.items)
+    low_rest = below-take (length d.stored.items) (length d.stack.items - n) d.stack.items is.stack_below
 
     -- the steps that are taken are in the table
-    low_top : AreBelow (length d.placed.items) (top n d.stack.items)
-    low_top = below-drop (length d.placed.items) (length d.stack.items - n) d.stack.items is.stack_below
+    low_top : AreBelow (length d.stored.items) (top n d.stack.items)
+    low_top = below-drop (length d.stored.items) (length d.stack.items - n) d.stack.items is.stack_below
 
     assertion-same : (row : Row) → row.step ≡ a_step → Follows S at names rows' row → decode names row.expr ≡ run.1
     assertion-same r e (from_hypothesis t active none is') =
@@ -191,26 +191,26 @@ module _ (S : Database) (at : ℕ) (names : List Name) (legal : HasLegalProperti
         (read-over S names a s legal.distinct bound c.typecodes.now c.hypotheses cited.numbered_hypotheses es len ρ read (codes-named S at names rows' (top n d.stack.items) is.rows (in_rows (top n d.stack.items) low_top)))
         cited.conclusion_below
 
-    makes-step : table.Makes S at label d.stack.items (below n d.stack.items) a_step
+    makes-step : table.IsStepOf S at label d.stack.items (below n d.stack.items) a_step
     makes-step = makes_assertion s carries (record { earlier = earlier; assertion = has.1 }) (length-top n d.stack.items many ∙ hypotheses-count) (halves n d.stack.items)
 
-    pub assertion-draft : (new : TableDraft) → GivesAssertion d new a c → IsDraft S at names new
+    pub assertion-draft : (new : TableDraft) → CitesAssertion d new a c → IsDraft S at names new
     assertion-draft new (inl finds) = found-draft S at names legal d new is a_step (below n d.stack.items) run.1 finds low_rest assertion-same
     assertion-draft new (inr (ρ, read, makes)) = made-draft S at names legal d new is a_step (below n d.stack.items) (code_apply ρ c.conclusion.now) makes low_rest low_top (made-follows ρ read) (made-coded ρ read)
 
     -- whether the step was found or made, it records the citation, and its result is that of the run
-    done' : (new : TableDraft) → GivesAssertion d new a c → IsRecorded S at names d label new (with_result st run.0 run.1)
+    done' : (new : TableDraft) → CitesAssertion d new a c → IsRecorded S at names d label new (with_result st run.0 run.1)
     done' new (inl finds) = (
       (below n d.stack.items, a_step, finds.place, makes-step, found-placed S at names legal d new is a_step (below n d.stack.items) run.1 finds low_rest assertion-same, finds.stack, finds.saved),
       found-tied S at names legal d new is a_step (below n d.stack.items) run.1 finds low_rest assertion-same st run.0 tied instance.front,
     )
     done' new (inr (ρ, read, makes)) =
         let e = code_apply ρ c.conclusion.now in (
-          (below n d.stack.items, a_step, length d.placed.items, makes-step, made-placed S at names legal d new is a_step (below n d.stack.items) e makes low_rest low_top (made-follows ρ read) (made-coded ρ read), makes.stack, makes.saved),
+          (below n d.stack.items, a_step, length d.stored.items, makes-step, made-placed S at names legal d new is a_step (below n d.stack.items) e makes low_rest low_top (made-follows ρ read) (made-coded ρ read), makes.stack, makes.saved),
           made-tied S at names legal d new is a_step (below n d.stack.items) e makes low_rest low_top (made-follows ρ read) (made-coded ρ read) st run.0 run.1 tied instance.front (made-step ρ read),
         )
 
-    pub assertion-done : (new : TableDraft) → GivesAssertion d new a c → IsRecorded S at names d label new next
+    pub assertion-done : (new : TableDraft) → CitesAssertion d new a c → IsRecorded S at names d label new next
     assertion-done new gives = subst (IsRecorded S at names d label new) (sym run.3) (done' new gives)
 
     pub typecodes-count : length c.typecodes.now ≡ n

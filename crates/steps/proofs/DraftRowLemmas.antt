@@ -1,29 +1,29 @@
 -- The rows after a row is appended: the earlier rows stay.
-use Rattle.steps.proofs.Words.{◌≡◌, ◌≢◌, ℕ, zero, suc, ◌≤◌, ◌⊎◌, List, [], ◌∷◌, ◌++◌, length, map, slice_get, Some, None, refl, sym, ◌∙◌, ap, subst, arith, inl, inr, true≢false, true, false, Bool, BTreeMap, bytes_eq, Vec, Global, bytes_eq-Decides, slice_get_within, map_push, Name, Database, decode, AreBelow, seen-more, seen-last, get-front, PlacedStep, Step, Row, row, no_row, steps_of, expr_in, Follows, from_hypothesis, from_assertion, IsRow, AreRows, row_of, key_of, place_of, AreKnown, AreInBuffer, below-more, get-last}
+use Rattle.steps.proofs.Words.{◌≡◌, ◌≢◌, ℕ, zero, suc, ◌≤◌, ◌⊎◌, List, [], ◌∷◌, ◌++◌, length, map, slice_get, Some, None, refl, sym, ◌∙◌, ap, subst, arith, inl, inr, true≢false, true, false, Bool, BTreeMap, bytes_eq, Vec, Global, bytes_eq-Decides, slice_get_within, map_push, Name, Database, decode, AreBelow, seen-more, seen-last, get-front, StoredStep, Step, Row, row, no_row, steps_of, expr_in, Follows, from_hypothesis, from_assertion, IsRow, AreRows, row_of, key_of, place_of, AreStepPlaces, AreInBuffer, below-more, get-last}
 
 -- ---- one buffer
 
-rows-kept : (xs e : List ℕ) (ps : List PlacedStep) → AreInBuffer (length xs) ps → map (row_of (xs ++ e)) ps ≡ map (row_of xs) ps
+rows-kept : (xs e : List ℕ) (ps : List StoredStep) → AreInBuffer (length xs) ps → map (row_of (xs ++ e)) ps ≡ map (row_of xs) ps
 rows-kept xs e [] b = refl
 rows-kept xs e (p ∷ ps) b =
-    ap (λ s. (let r : Row = record { step = record { position = p.position; taken = p.taken.items }; expr = s } in r) ∷ map (row_of (xs ++ e)) ps) (seen-more xs e p.place b.0 b.1)
+    ap (λ s. (let r : Row = record { step = record { position = p.position; taken = p.taken.items }; expr = s } in r) ∷ map (row_of (xs ++ e)) ps) (seen-more xs e p.range b.0 b.1)
     ∙ ap (λ r. row_of xs p ∷ r) (rows-kept xs e ps b.2)
 
-pub rows-more : (xs e zs : List ℕ) (ps : List PlacedStep) (p : PlacedStep) (step : Step) → AreInBuffer (length xs) ps → zs ≡ xs ++ e → p.place.start ≡ length xs → p.place.end ≡ length zs
+pub rows-more : (xs e zs : List ℕ) (ps : List StoredStep) (p : StoredStep) (step : Step) → AreInBuffer (length xs) ps → zs ≡ xs ++ e → p.range.start ≡ length xs → p.range.end ≡ length zs
     → p.position ≡ step.position → p.taken.items ≡ step.taken → map (row_of zs) (ps ++ p ∷ []) ≡ map (row_of xs) ps ++ (let r : Row = record { step = step; expr = e } in r) ∷ []
 rows-more xs e zs ps p step b same start end position taken =
     map_push (row_of zs) ps p
     ∙ (ap (λ r. r ++ row_of zs p ∷ []) (ap (λ s. map (row_of s) ps) same ∙ rows-kept xs e ps b)
     ∙ ap (λ r. map (row_of xs) ps ++ r ∷ [])
-    (ap (λ s. let r : Row = record { step = record { position = p.position; taken = p.taken.items }; expr = s } in r) (seen-last xs e zs p.place same start end)
+    (ap (λ s. let r : Row = record { step = record { position = p.position; taken = p.taken.items }; expr = s } in r) (seen-last xs e zs p.range same start end)
     ∙ (ap (λ k. let r : Row = record { step = record { position = k; taken = p.taken.items }; expr = e } in r) position
     ∙ ap (λ t. let r : Row = record { step = record { position = step.position; taken = t }; expr = e } in r) taken)))
 
-pub buffer-weaken : (n m : ℕ) (ps : List PlacedStep) → n ≤ m → AreInBuffer n ps → AreInBuffer m ps
+pub buffer-weaken : (n m : ℕ) (ps : List StoredStep) → n ≤ m → AreInBuffer n ps → AreInBuffer m ps
 buffer-weaken n m [] h b = tt
 buffer-weaken n m (p ∷ ps) h b = (b.0, (let e = b.1 in omega (arith, e, h)), buffer-weaken n m ps h b.2)
 
-pub buffer-snoc : (n m : ℕ) (ps : List PlacedStep) (p : PlacedStep) → n ≤ m → AreInBuffer n ps → p.place.start ≤ p.place.end → p.place.end ≤ m → AreInBuffer m (ps ++ p ∷ [])
+pub buffer-snoc : (n m : ℕ) (ps : List StoredStep) (p : StoredStep) → n ≤ m → AreInBuffer n ps → p.range.start ≤ p.range.end → p.range.end ≤ m → AreInBuffer m (ps ++ p ∷ [])
 buffer-snoc n m [] p h b s e = (s, e, tt)
 buffer-snoc n m (q ∷ ps) p h b s e = (b.0, (let x = b.1 in omega (arith, x, h)), buffer-snoc n m ps p h b.2 s e)
 
@@ -86,9 +86,9 @@ same-key a b e =
     let t : a.taken ≡ b.taken = cc in
     ap (λ k. let s : Step = record { position = k; taken = a.taken } in s) p ∙ ap (λ u. let s : Step = record { position = b.position; taken = u } in s) t
 
-pub known-snoc : (old new : BTreeMap (Vec ℕ Global) ℕ) (steps : List Step) (step : Step) → AreKnown old steps → place_of old (key_of step) ≡ None → place_of new (key_of step) ≡ Some (length steps)
-    → ((x : List ℕ) → x ≢ key_of step → place_of new x ≡ place_of old x) → AreKnown new (steps ++ step ∷ [])
-known-snoc old new steps step k fresh own others = record { there = λ s n h. there s n (bytes_eq (key_of s) (key_of step)) refl h; all = λ s n h. all s n (some-front steps step n s h) }
+pub step_places-snoc : (old new : BTreeMap (Vec ℕ Global) ℕ) (steps : List Step) (step : Step) → AreStepPlaces old steps → place_of old (key_of step) ≡ None → place_of new (key_of step) ≡ Some (length steps)
+    → ((x : List ℕ) → x ≢ key_of step → place_of new x ≡ place_of old x) → AreStepPlaces new (steps ++ step ∷ [])
+step_places-snoc old new steps step k fresh own others = record { there = λ s n h. there s n (bytes_eq (key_of s) (key_of step)) refl h; all = λ s n h. all s n (some-front steps step n s h) }
   where
     there : (s : Step) (n : ℕ) → (b : Bool) → bytes_eq (key_of s) (key_of step) ≡ b → place_of new (key_of s) ≡ Some n → slice_get (steps ++ step ∷ []) n ≡ Some s
     there s n true e h =

@@ -1,5 +1,5 @@
 -- The effect of an item on the table that is built.
-use Rattle.steps.proofs.Words.{◌≡◌, ℕ, zero, suc, ◌-◌, ◌<◌, List, [], ◌∷◌, ◌++◌, length, map, get_or, slice_get, Option, Some, None, refl, sym, ◌∙◌, ap, subst, arith, length-append, length-map, map_push, slice_get-get_or, Name, Stmt, Expr, Database, stmt_at, AreBelow, Carries, IsHypothesis, IsMeaning, IsPosition, ArePositions, HasLegalProperties, Nothing, Recall, Mark, State, Cites, with_result, with_mark, append_cut, get-map, Progress, steps_of, expr_in, AreRows, row_of, rows_of, AreInBuffer, AreKnown, IsDraft, AgreesWithRun, CanDo, IsDone, TableDraft, below-push, below-at}
+use Rattle.steps.proofs.Words.{◌≡◌, ℕ, zero, suc, ◌-◌, ◌<◌, List, [], ◌∷◌, ◌++◌, length, map, get_or, slice_get, Option, Some, None, refl, sym, ◌∙◌, ap, subst, arith, length-append, length-map, map_push, slice_get-get_or, Name, Stmt, Expr, Database, stmt_at, AreBelow, Carries, IsHypothesis, IsMeaning, IsPosition, ArePositions, HasLegalProperties, Nothing, Recall, Mark, State, Cites, with_result, with_mark, append_cut, get-map, Progress, steps_of, expr_in, AreRows, row_of, rows_of, AreInBuffer, AreStepPlaces, IsDraft, AgreesWithRun, RunDoes, IsItemRecorded, TableDraft, below-push, below-at}
 use Rattle.verify.specs.Machine.{of_hypothesis, of_assertion}
 
 -- a list that is not empty, split before its last element
@@ -17,23 +17,23 @@ module _ (S : Database) (at : ℕ) (names : List Name) (d : TableDraft) (is : Is
 
   -- ---- a mark
 
-  pub mark-some : CanDo S at names d Mark → 0 < length d.stack.items
+  pub mark-some : RunDoes S at names d Mark → 0 < length d.stack.items
   mark-some (st, next, tied, (b, e, whole, goes)) =
       let l = ap length (tied.stack ∙ whole) in
       let m = length-map d.stack.items f in
       let a = length-append b (e ∷ []) in
       omega (arith, l, m, a)
 
-  module _ (new : TableDraft) (p : ℕ) (same_placed : new.placed.items ≡ d.placed.items) (same_symbols : new.symbols ≡ d.symbols) (same_known : new.known ≡ d.known) where
+  module _ (new : TableDraft) (p : ℕ) (same_placed : new.stored.items ≡ d.stored.items) (same_symbols : new.symbols ≡ d.symbols) (same_known : new.step_places ≡ d.step_places) where
     -- a draft with the same steps and symbols has the same rows
     same_rows : rows_of new ≡ rows_of d
-    same_rows = ap (λ s. map (row_of s) new.placed.items) same_symbols ∙ ap (map (row_of d.symbols)) same_placed
+    same_rows = ap (λ s. map (row_of s) new.stored.items) same_symbols ∙ ap (map (row_of d.symbols)) same_placed
 
-    draft-same : AreBelow (length d.placed.items) new.stack.items → AreBelow (length d.placed.items) new.saved.items → IsDraft S at names new
+    draft-same : AreBelow (length d.stored.items) new.stack.items → AreBelow (length d.stored.items) new.saved.items → IsDraft S at names new
     draft-same stack saved = record {
-      inside = subst (λ s. AreInBuffer (length s) new.placed.items) (sym same_symbols) (subst (AreInBuffer (length d.symbols)) (sym same_placed) is.inside);
+      inside = subst (λ s. AreInBuffer (length s) new.stored.items) (sym same_symbols) (subst (AreInBuffer (length d.symbols)) (sym same_placed) is.inside);
       rows = subst (AreRows S at names) (sym same_rows) is.rows;
-      known = subst (λ m. AreKnown m (steps_of (rows_of new))) (sym same_known) (subst (λ r. AreKnown d.known (steps_of r)) (sym same_rows) is.known);
+      step_places = subst (λ m. AreStepPlaces m (steps_of (rows_of new))) (sym same_known) (subst (λ r. AreStepPlaces d.step_places (steps_of r)) (sym same_rows) is.step_places);
       stack_below = subst (λ ps. AreBelow (length ps) new.stack.items) (sym same_placed) stack;
       saved_below = subst (λ ps. AreBelow (length ps) new.saved.items) (sym same_placed) saved;
     }
@@ -44,10 +44,10 @@ module _ (S : Database) (at : ℕ) (names : List Name) (d : TableDraft) (is : Is
     module _ (some : 0 < length d.stack.items) (last : p ≡ get_or d.stack.items (length d.stack.items - 1) p) (same_stack : new.stack.items ≡ d.stack.items) (saved : new.saved.items ≡ d.saved.items ++ p ∷ []) where
       pub marked-draft : IsDraft S at names new
       marked-draft =
-          let low : p < length d.placed.items = subst (λ k. k < length d.placed.items) (sym last) (below-at (length d.placed.items) d.stack.items (length d.stack.items - 1) p is.stack_below (omega (arith, some))) in
-          draft-same (subst (AreBelow (length d.placed.items)) (sym same_stack) is.stack_below) (subst (AreBelow (length d.placed.items)) (sym saved) (below-push (length d.placed.items) d.saved.items p is.saved_below low))
+          let low : p < length d.stored.items = subst (λ k. k < length d.stored.items) (sym last) (below-at (length d.stored.items) d.stack.items (length d.stack.items - 1) p is.stack_below (omega (arith, some))) in
+          draft-same (subst (AreBelow (length d.stored.items)) (sym same_stack) is.stack_below) (subst (AreBelow (length d.stored.items)) (sym saved) (below-push (length d.stored.items) d.saved.items p is.saved_below low))
 
-      pub marked-done : IsDone S at names d Mark new
+      pub marked-done : IsItemRecorded S at names d Mark new
       marked-done st next tied (b, e, whole, goes) =
           let w = front-last d.stack.items p some in
           let split : d.stack.items ≡ w.0 ++ p ∷ [] = w.1 ∙ ap (λ k. w.0 ++ k ∷ []) (sym last) in
@@ -68,7 +68,7 @@ module _ (S : Database) (at : ℕ) (names : List Name) (d : TableDraft) (is : Is
 
   -- ---- a recall
 
-  pub recall-there : (k : ℕ) → CanDo S at names d (Recall (suc k)) → k < length d.saved.items
+  pub recall-there : (k : ℕ) → RunDoes S at names d (Recall (suc k)) → k < length d.saved.items
   recall-there k (st, next, tied, (e, saved, goes)) =
       let l = low st.saved k saved in
       let m = ap length tied.saved in
@@ -80,15 +80,15 @@ module _ (S : Database) (at : ℕ) (names : List Name) (d : TableDraft) (is : Is
       low (x ∷ xs) zero h = omega arith
       low (x ∷ xs) (suc k) h = let r = low xs k h in omega (arith, r)
 
-  module _ (new : TableDraft) (k p : ℕ) (there : k < length d.saved.items) (is_p : p ≡ get_or d.saved.items k p) (same_placed : new.placed.items ≡ d.placed.items) (same_symbols : new.symbols ≡ d.symbols) (same_known : new.known ≡ d.known)
+  module _ (new : TableDraft) (k p : ℕ) (there : k < length d.saved.items) (is_p : p ≡ get_or d.saved.items k p) (same_placed : new.stored.items ≡ d.stored.items) (same_symbols : new.symbols ≡ d.symbols) (same_known : new.step_places ≡ d.step_places)
       (stack : new.stack.items ≡ d.stack.items ++ p ∷ []) (same_saved : new.saved.items ≡ d.saved.items) where
     pub recalled-draft : IsDraft S at names new
     recalled-draft =
-        let low : p < length d.placed.items = subst (λ j. j < length d.placed.items) (sym is_p) (below-at (length d.placed.items) d.saved.items k p is.saved_below there) in
-        draft-same new p same_placed same_symbols same_known (subst (AreBelow (length d.placed.items)) (sym stack) (below-push (length d.placed.items) d.stack.items p is.stack_below low))
-        (subst (AreBelow (length d.placed.items)) (sym same_saved) is.saved_below)
+        let low : p < length d.stored.items = subst (λ j. j < length d.stored.items) (sym is_p) (below-at (length d.stored.items) d.saved.items k p is.saved_below there) in
+        draft-same new p same_placed same_symbols same_known (subst (AreBelow (length d.stored.items)) (sym stack) (below-push (length d.stored.items) d.stack.items p is.stack_below low))
+        (subst (AreBelow (length d.stored.items)) (sym same_saved) is.saved_below)
 
-    pub recalled-done : IsDone S at names d (Recall (suc k)) new
+    pub recalled-done : IsItemRecorded S at names d (Recall (suc k)) new
     recalled-done st next tied (e, saved, goes) =
         let one : e ≡ f p = get-map f d.saved.items k e (ap (λ s. slice_get s k) tied.saved ∙ saved) p ∙ ap f (sym is_p) in (
           (

@@ -1,5 +1,5 @@
 -- The marks of the essential steps, from the last step to the first.
-use Rattle.steps.proofs.Words.{◌≡◌, ◌⊎◌, ℕ, zero, suc, ◌-◌, ◌<◌, ◌≤◌, Bool, true, false, List, [], ◌∷◌, length, replicate, get_or, slice_get, slice_set, Some, refl, sym, ◌∙◌, ap, subst, arith, inl, inr, length-set, length-replicate, get_or-set_same, slice_get_within, Database, AreBelow, no-mark, set_true, Step, essential_of, IsIn, IsEssential, is_last, is_taken, HasMark, mark_last, mark_each, MarksMore, AreMarkedFrom, AreMarks, below-get}
+use Rattle.steps.proofs.Words.{◌≡◌, ◌⊎◌, ℕ, zero, suc, ◌-◌, ◌<◌, ◌≤◌, Bool, true, false, List, [], ◌∷◌, length, replicate, get_or, slice_get, slice_set, Some, refl, sym, ◌∙◌, ap, subst, arith, inl, inr, length-set, length-replicate, get_or-set_same, slice_get_within, Database, AreBelow, no-mark, set_true, Step, premise_places, IsIn, IsEssential, is_last, is_taken, HasMark, mark_last, mark_each, MarksMore, AreMarkedFrom, AreMarks, below-get}
 
 pub from-or-at : (p j : ℕ) → p ≤ j → (j ≡ p) ⊎ (suc p ≤ j)
 from-or-at zero zero h = inl refl
@@ -100,12 +100,12 @@ module _ (S : Database) (steps : List Step) where
     closed = λ j k step from h at in_it. by j k step (from-or-at p j from) h at in_it;
   }
     where
-      by : (j k : ℕ) (step : Step) → (j ≡ p) ⊎ (suc p ≤ j) → HasMark marks j → slice_get steps j ≡ Some step → IsIn k (essential_of S step) → HasMark marks k
+      by : (j k : ℕ) (step : Step) → (j ≡ p) ⊎ (suc p ≤ j) → HasMark marks j → slice_get steps j ≡ Some step → IsIn k (premise_places S step) → HasMark marks k
       by j k step (inl e) h at in_it = let x : get_or marks p false ≡ true = ap (λ i. get_or marks i false) (sym e) ∙ h in cc
       by j k step (inr l) h at in_it = m.closed j k step l h at in_it
 
   -- the step at p is marked, and so are the steps that it takes for a `$e`
-  pub marked-on : (p : ℕ) (step : Step) (old new : List Bool) → AreMarkedFrom S steps (suc p) old → HasMark old p → slice_get steps p ≡ Some step → AreBelow p (essential_of S step) → MarksMore old new (essential_of S step) → AreMarkedFrom S steps p new
+  pub marked-on : (p : ℕ) (step : Step) (old new : List Bool) → AreMarkedFrom S steps (suc p) old → HasMark old p → slice_get steps p ≡ Some step → AreBelow p (premise_places S step) → MarksMore old new (premise_places S step) → AreMarkedFrom S steps p new
   marked-on p step old new m here at low more = record {
     count = more.count ∙ m.count;
     sound = λ k h. sound k ((more.each k).0 h);
@@ -113,17 +113,17 @@ module _ (S : Database) (steps : List Step) where
     closed = λ j k s from h at' in_it. by j k s (from-or-at p j from) ((more.each j).0 h) at' in_it;
   }
     where
-      sound : (k : ℕ) → HasMark old k ⊎ IsIn k (essential_of S step) → IsEssential S steps k
+      sound : (k : ℕ) → HasMark old k ⊎ IsIn k (premise_places S step) → IsEssential S steps k
       sound k (inl h) = m.sound k h
       sound k (inr h) = is_taken p step (m.sound p here) at h
 
-      by : (j k : ℕ) (s : Step) → (j ≡ p) ⊎ (suc p ≤ j) → HasMark old j ⊎ IsIn j (essential_of S step) → slice_get steps j ≡ Some s → IsIn k (essential_of S s) → HasMark new k
+      by : (j k : ℕ) (s : Step) → (j ≡ p) ⊎ (suc p ≤ j) → HasMark old j ⊎ IsIn j (premise_places S step) → slice_get steps j ≡ Some s → IsIn k (premise_places S s) → HasMark new k
       by j k s (inl e) h at' in_it =
           let both : Some s ≡ Some step = sym at' ∙ (ap (slice_get steps) e ∙ at) in
           let same : s ≡ step = cc in
-          (more.each k).1 (inr (subst (λ x. IsIn k (essential_of S x)) same in_it))
+          (more.each k).1 (inr (subst (λ x. IsIn k (premise_places S x)) same in_it))
       by j k s (inr l) (inl h) at' in_it = (more.each k).1 (inl (m.closed j k s l h at' in_it))
-      by j k s (inr l) (inr h) at' in_it = let x = below-get p (essential_of S step) h.0 j low h.1 in absurd (omega (arith, x, l))
+      by j k s (inr l) (inr h) at' in_it = let x = below-get p (premise_places S step) h.0 j low h.1 in absurd (omega (arith, x, l))
 
   -- all steps were visited
   module _ (marks : List Bool) (m : AreMarkedFrom S steps 0 marks) where

@@ -1,5 +1,5 @@
 -- The marked places in order, and their numbers.
-use Rattle.steps.proofs.Words.{◌≡◌, ◌⊎◌, ℕ, zero, suc, ◌+◌, ◌<◌, ◌≤◌, Bool, true, false, if◌then◌else◌, List, [], ◌∷◌, ◌++◌, length, map, get_or, slice_get, Some, refl, sym, ◌∙◌, ap, subst, arith, length-append, inl, inr, length-map, map_push, IsStrictlyIncreasing, slice_get-get_or, get_or_from_slice_get, cases_Bool, cases_lt, Database, Row, no_row, steps_of, essential_of, IsEssential, is_taken, IsRenumbered, AreEssential, HasMark, AreMarks, marked_before, number_of, AreNumbers, kept_row, map-at, get-last}
+use Rattle.steps.proofs.Words.{◌≡◌, ◌⊎◌, ℕ, zero, suc, ◌+◌, ◌<◌, ◌≤◌, Bool, true, false, if◌then◌else◌, List, [], ◌∷◌, ◌++◌, length, map, get_or, slice_get, Some, refl, sym, ◌∙◌, ap, subst, arith, length-append, inl, inr, length-map, map_push, IsStrictlyIncreasing, slice_get-get_or, get_or_from_slice_get, cases_Bool, cases_lt, Database, Row, no_row, steps_of, premise_places, IsEssential, is_taken, IsRenumbered, AreEssential, HasMark, AreMarks, marked_before, number_of, AreNumbers, kept_row, map-at, get-last}
 use Rattle.steps.proofs.DraftRowLemmas.{some-front, some-more, step-at}
 use Rattle.steps.proofs.EssentialMarkLemmas.{from-or-at}
 
@@ -127,7 +127,7 @@ module _ (S : Database) (rows : List Row) (marks : List Bool) (are : AreMarks S 
   step-of k l = step-at rows k (get_or rows k no_row) (slice_get-get_or rows k no_row l)
 
   -- a step that a marked step takes for a `$e` is listed, at its new number
-  numbered : (k : ℕ) → HasMark marks k → (i x : ℕ) → slice_get (essential_of S (get_or rows k no_row).step) i ≡ Some x → slice_get kept (number_of marks x) ≡ Some x
+  numbered : (k : ℕ) → HasMark marks k → (i x : ℕ) → slice_get (premise_places S (get_or rows k no_row).step) i ≡ Some x → slice_get kept (number_of marks x) ≡ Some x
   numbered k h i x e =
       let taken : IsEssential S (steps_of rows) x = is_taken k (get_or rows k no_row).step ((are.exact k).0 h) (step-of k (within k h)) (i, e) in
       let m = (are.exact x).1 taken in
@@ -137,8 +137,8 @@ module _ (S : Database) (rows : List Row) (marks : List Bool) (are : AreMarks S 
   renumbered : (k : ℕ) → HasMark marks k → IsRenumbered S kept (get_or rows k no_row) (kept_row S rows marks k)
   renumbered k h = record {
     position = refl;
-    taken = map-twice (slice_get kept) (number_of marks) (essential_of S (get_or rows k no_row).step)
-        ∙ maps-each (λ x. slice_get kept (number_of marks x)) (λ x. Some x) (essential_of S (get_or rows k no_row).step) (numbered k h);
+    taken = map-twice (slice_get kept) (number_of marks) (premise_places S (get_or rows k no_row).step)
+        ∙ maps-each (λ x. slice_get kept (number_of marks x)) (λ x. Some x) (premise_places S (get_or rows k no_row).step) (numbered k h);
     expr = refl;
   }
 

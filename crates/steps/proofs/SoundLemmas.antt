@@ -1,5 +1,5 @@
 -- Properties of the steps of any items.
-use Rattle.steps.proofs.Words.{◌≡◌, ℕ, zero, suc, ◌-◌, ◌<◌, ◌⊎◌, List, [], ◌∷◌, ◌++◌, length, slice_get, Some, refl, sym, ◌∙◌, ap, subst, arith, length-append, inl, inr, slice_get_within, Name, Database, AreBelow, Item, Cite, Recall, Mark, below-get, Step, Progress, progress, IsPlaced, stands, comes_last, Makes, of_hypothesis, of_assertion, RecordsItem, RecordsItems, AreSteps, below-push, below-more, get-last}
+use Rattle.steps.proofs.Words.{◌≡◌, ℕ, zero, suc, ◌-◌, ◌<◌, ◌⊎◌, List, [], ◌∷◌, ◌++◌, length, slice_get, Some, refl, sym, ◌∙◌, ap, subst, arith, length-append, inl, inr, slice_get_within, Name, Database, AreBelow, Item, Cite, Recall, Mark, below-get, Step, Progress, progress, IsPlaced, was_there, is_appended, IsStepOf, of_hypothesis, of_assertion, RecordsItem, RecordsItems, AreSteps, below-push, below-more, get-last}
 use Rattle.steps.proofs.DraftRowLemmas.{some-front, some-more}
 
 pub record IsSound (p : Progress) : Type 0 where
@@ -67,15 +67,15 @@ module _ (p q : Progress) (is : IsSound p) (below : List ℕ) (step : Step) (n :
 
   -- after a step is placed, either way, the properties hold
   pub cited : IsPlaced p.steps step q.steps n → IsSound q
-  cited (stands h same) = stood h same
-  cited (comes_last fresh place more) = added fresh place more
+  cited (was_there h same) = stood h same
+  cited (is_appended fresh place more) = added fresh place more
 
 module _ (S : Database) (at : ℕ) where
   -- after a citation the properties hold
   cites : (p q : Progress) (label : Name) → IsSound p → RecordsItem S at p (Cite label) q → IsSound q
   cites p q label is (below, step, n, makes, placed, stack, saved) = by makes
     where
-      by : Makes S at label p.stack below step → IsSound q
+      by : IsStepOf S at label p.stack below step → IsSound q
       by (of_hypothesis s carries active none whole) =
           cited p q is below step n (subst (AreBelow (length p.steps)) whole is.stack_below) (subst (AreBelow (length p.steps)) (sym none) tt) (λ k x h. inl (ap (λ v. slice_get v k) (sym whole) ∙ h)) stack saved placed
       by (of_assertion s carries citable many whole) =

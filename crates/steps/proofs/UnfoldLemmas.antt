@@ -1,5 +1,5 @@
 -- The last of the steps of a list of items unfolds to the derivation that the items spell.
-use Rattle.steps.proofs.Words.{◌≡◌, ℕ, zero, suc, ◌+◌, ◌-◌, ◌<◌, Bool, true, false, if◌then◌else◌, List, [], ◌∷◌, ◌++◌, length, map, slice_get, Some, refl, sym, ◌∙◌, ap, subst, arith, length-append, length-map, map_push, map-append, map-at, Name, Stmt, Database, stmt_at, is_assertion, AreBelow, IsHypothesis, HasLabelsOnce, Item, Cite, Recall, Mark, Derivation, hyp, apply, from_list, Trees, trees, a_hypothesis, an_assertion, Grows, GrowsBy, pick, IsRight, Derives, not_both, leaves, map-pick, trees-same, get-front, Step, Progress, progress, IsPlaced, stands, comes_last, Makes, of_hypothesis, of_assertion, RecordsItem, RecordsItems, AreSteps, has_assertion, citation_over, unfolded_after, unfolded, last_unfolded}
+use Rattle.steps.proofs.Words.{◌≡◌, ℕ, zero, suc, ◌+◌, ◌-◌, ◌<◌, Bool, true, false, if◌then◌else◌, List, [], ◌∷◌, ◌++◌, length, map, slice_get, Some, refl, sym, ◌∙◌, ap, subst, arith, length-append, length-map, map_push, map-append, map-at, Name, Stmt, Database, stmt_at, is_assertion, AreBelow, IsHypothesis, HasLabelsOnce, Item, Cite, Recall, Mark, Derivation, hyp, apply, from_list, Trees, trees, a_hypothesis, an_assertion, Grows, GrowsBy, pick, IsRight, Derives, not_both, leaves, map-pick, trees-same, get-front, Step, Progress, progress, IsPlaced, was_there, is_appended, IsStepOf, of_hypothesis, of_assertion, RecordsItem, RecordsItems, AreSteps, has_assertion, citation_over, unfolded_after, unfolded, last_unfolded}
 use Rattle.frame.proofs.PositionLemmas.{get-last}
 use Rattle.steps.proofs.SoundLemmas.{IsSound, record_item-sound, nothing-sound, below-split}
 
@@ -67,13 +67,13 @@ module _ (S : Database) where
   -- after a citation, the derivation of its step is on top of those below
   cites-over : (p q : Progress) (below : List ℕ) (step : Step) (n : ℕ) → IsSound p → AreBelow (length p.steps) below → IsPlaced p.steps step q.steps n → q.stack ≡ below ++ n ∷ [] → q.saved ≡ p.saved
       → seen q ≡ trees (map (pick (unfolded S p.steps)) below ++ citation_over S (unfolded S p.steps) step ∷ []) (map (pick (unfolded S p.steps)) p.saved)
-  cites-over p q below step n is low (stands h same) stack saved =
+  cites-over p q below step n is low (was_there h same) stack saved =
       let us = unfolded S p.steps in
       ap (λ s. trees (map (pick (unfolded S s)) q.stack) (map (pick (unfolded S s)) q.saved)) same
       ∙ trees-same _ _ _ _
       (ap (map (pick us)) stack ∙ (map_push (pick us) below n ∙ ap (λ t. map (pick us) below ++ t ∷ []) (unfolded-at p.steps n step h (is.ordered n step h))))
       (ap (map (pick us)) saved)
-  cites-over p q below step n is low (comes_last fresh place more) stack saved =
+  cites-over p q below step n is low (is_appended fresh place more) stack saved =
       let us = unfolded S p.steps in
       let t = citation_over S us step in
       let len : length us ≡ length p.steps = unfolded-length p.steps in
@@ -97,7 +97,7 @@ module _ (S : Database) where
         other s active true e = absurd (not_both s active.kind e)
         other s active false e = refl
 
-        by : Makes S at label p.stack below step → Grows S at (seen p) (Cite label) (seen q)
+        by : IsStepOf S at label p.stack below step → Grows S at (seen p) (Cite label) (seen q)
         by (of_hypothesis s carries active none whole) =
             let over : citation_over S (unfolded S p.steps) step ≡ hyp step.position =
             ap (λ o. if has_assertion o then apply step.position (from_list (map (pick (unfolded S p.steps)) step.taken)) else hyp step.position) active.stands

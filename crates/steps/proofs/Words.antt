@@ -45,14 +45,14 @@ pub use Rattle.std.specs.Prelude.{Bool, IfSome, List, None, Option, Some, [], fa
 pub use Rattle.std.specs.Str.{bytes_eq}
 pub use Rattle.std.specs.declared.alloc.Global.{Global}
 pub use Rattle.std.specs.declared.vec.Vec.{Vec}
-pub use Rattle.steps.specs.Essential.{AreEssential, IsEssential, IsIn, IsRenumbered, essential_of, for_premises, is_last, is_premise, is_taken, mandatory}
+pub use Rattle.steps.specs.Essential.{AreEssential, IsEssential, IsIn, IsRenumbered, premise_places, taken_for_premises, is_last, is_premise, is_taken, mandatory_hypotheses}
 pub use Rattle.steps.specs.Rows.{AreRows, Follows, IsRow, Row, expr_in, from_assertion, from_hypothesis, no_row, row, steps_of}
-pub use Rattle.steps.specs.StepTable.{AreSteps, IsPlaced, Makes, Progress, RecordsItem, RecordsItems, Step, comes_last, of_assertion, of_hypothesis, progress, stands}
-pub use Rattle.steps.specs.Stored.Drafted.{AreInBuffer, AreKnown, CanDo, Finds, GivesAssertion, GivesHypothesis, IsDone, IsDraft, AgreesWithRun, codes_in, key_of, range_in, place_of, progress_of, row_of, rows_of}
-pub use Rattle.steps.specs.Stored.LongLists.{AreKept, AreListsOf, AreMadeOf, HasPartsOf, IsAt, ListedHypotheses, with_groups}
-pub use Rattle.steps.specs.Stored.Marked.{AreMarkedFrom, AreMarks, AreNumbers, HasMark, MarksMore, kept_row, mark_each, mark_last, marked_before, number_of, taken_by}
+pub use Rattle.steps.specs.StepTable.{AreSteps, IsPlaced, IsStepOf, Progress, RecordsItem, RecordsItems, Step, is_appended, of_assertion, of_hypothesis, progress, was_there}
+pub use Rattle.steps.specs.Stored.Drafted.{AreInBuffer, AreStepPlaces, RunDoes, FindsStep, CitesAssertion, CitesHypothesis, IsItemRecorded, IsDraft, AgreesWithRun, codes_in, key_of, range_in, place_of, progress_of, row_of, rows_of}
+pub use Rattle.steps.specs.Stored.LongLists.{AreListsOfAssertions, IsListOf, IsCopyOf, IsViewUpToGroups, IsListAt, ListedHypotheses, with_groups}
+pub use Rattle.steps.specs.Stored.Marked.{AreMarkedFrom, AreMarks, AreNumbers, HasMark, MarksMore, kept_row, mark_each, mark_last, marked_before, number_of, taken_for_essentials}
 pub use Rattle.steps.specs.Unfolded.{citation_over, has_assertion, last_unfolded, unfolded, unfolded_after}
-pub use Rattle.steps.specs.declared.table_draft.PlacedStep.{PlacedStep}
+pub use Rattle.steps.specs.declared.table_draft.StoredStep.{StoredStep}
 pub use Rattle.steps.specs.declared.table_draft.TableDraft.{TableDraft}
 pub use Rattle.subst.proofs.GroupLemmas.{below-drop}
 pub use Rattle.subst.proofs.SymbolRangeLemmas.{seen-last, seen-more}

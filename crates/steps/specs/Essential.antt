@@ -11,20 +11,20 @@ abbrev pub is_premise : Option Stmt → Bool
 is_premise None = false
 is_premise (Some s) = is_essential s
 
--- the places taken for a `$e`, among the places taken for these hypotheses
-abbrev pub for_premises : Database → List ℕ → List ℕ → List ℕ
-for_premises S [] taken = []
-for_premises S (p ∷ ps) [] = []
-for_premises S (p ∷ ps) (k ∷ taken) = if is_premise (stmt_at S p) then k ∷ for_premises S ps taken else for_premises S ps taken
+-- the places taken for a `$e`, among the places taken for the hypotheses at these positions
+abbrev pub taken_for_premises : Database → List ℕ → List ℕ → List ℕ
+taken_for_premises S [] taken = []
+taken_for_premises S (p ∷ ps) [] = []
+taken_for_premises S (p ∷ ps) (k ∷ taken) = if is_premise (stmt_at S p) then k ∷ taken_for_premises S ps taken else taken_for_premises S ps taken
 
 -- the mandatory hypotheses of the assertion at a, if there is one
-abbrev pub mandatory : Database → ℕ → Option Stmt → List ℕ
-mandatory S a None = []
-mandatory S a (Some s) = hypotheses (before S a) s
+abbrev pub mandatory_hypotheses : Database → ℕ → Option Stmt → List ℕ
+mandatory_hypotheses S a None = []
+mandatory_hypotheses S a (Some s) = hypotheses (before S a) s
 
 -- the places of the steps that the step takes for a `$e`, in order
-abbrev pub essential_of : Database → Step → List ℕ
-essential_of S step = for_premises S (mandatory S step.position (stmt_at S step.position)) step.taken
+abbrev pub premise_places : Database → Step → List ℕ
+premise_places S step = taken_for_premises S (mandatory_hypotheses S step.position (stmt_at S step.position)) step.taken
 
 -- the list contains the number
 abbrev pub IsIn : ℕ → List ℕ → Type 0
@@ -33,12 +33,12 @@ IsIn k ks = (i : ℕ) × (slice_get ks i ≡ Some k)
 -- the step at this place is kept: it is the last, or a kept step takes it for a `$e`
 pub data IsEssential (S : Database) (steps : List Step) : ℕ → Type 0 where
   is_last : {k : ℕ} → length steps ≡ suc k → IsEssential S steps k
-  is_taken : {k : ℕ} → (j : ℕ) (step : Step) → IsEssential S steps j → slice_get steps j ≡ Some step → IsIn k (essential_of S step) → IsEssential S steps k
+  is_taken : {k : ℕ} → (j : ℕ) (step : Step) → IsEssential S steps j → slice_get steps j ≡ Some step → IsIn k (premise_places S step) → IsEssential S steps k
 
--- the new row is the old one, but takes only what that takes for a `$e`, by the numbers among the kept steps
+-- the new row is the old one, but takes only the steps that the old one takes for a `$e`, by their numbers among the kept steps
 pub record IsRenumbered (S : Database) (kept : List ℕ) (old new : Row) : Type 0 where
   pub position : new.step.position ≡ old.step.position
-  pub taken : map (slice_get kept) new.step.taken ≡ map (λ k. Some k) (essential_of S old.step)
+  pub taken : map (slice_get kept) new.step.taken ≡ map (λ k. Some k) (premise_places S old.step)
   pub expr : new.expr ≡ old.expr
 
 -- the new rows are the kept ones, in order, renumbered

@@ -21,14 +21,14 @@ progress steps stack saved = record { steps = steps; stack = stack; saved = save
 
 -- the step is at place n: it was there already, or it was nowhere and is appended
 pub data IsPlaced (old : List Step) (step : Step) (new : List Step) (n : ℕ) : Type 0 where
-  stands : slice_get old n ≡ Some step → new ≡ old → IsPlaced old step new n
-  comes_last : ((k : ℕ) → slice_get old k ≡ Some step → ⊥) → n ≡ length old → new ≡ old ++ step ∷ [] → IsPlaced old step new n
+  was_there : slice_get old n ≡ Some step → new ≡ old → IsPlaced old step new n
+  is_appended : ((k : ℕ) → slice_get old k ≡ Some step → ⊥) → n ≡ length old → new ≡ old ++ step ∷ [] → IsPlaced old step new n
 
 -- the citation of a label makes this step from the results above `below`
-pub data Makes (S : Database) (at : ℕ) (label : Name) (stack below : List ℕ) (step : Step) : Type 0 where
-  of_hypothesis : (s : Stmt) → Carries S step.position s label → IsHypothesis S at step.position s → step.taken ≡ [] → stack ≡ below → Makes S at label stack below step
+pub data IsStepOf (S : Database) (at : ℕ) (label : Name) (stack below : List ℕ) (step : Step) : Type 0 where
+  of_hypothesis : (s : Stmt) → Carries S step.position s label → IsHypothesis S at step.position s → step.taken ≡ [] → stack ≡ below → IsStepOf S at label stack below step
   of_assertion : (s : Stmt) → Carries S step.position s label → IsCitable S at step.position s → length step.taken ≡ length (hypotheses (before S step.position) s)
-      → stack ≡ below ++ step.taken → Makes S at label stack below step
+      → stack ≡ below ++ step.taken → IsStepOf S at label stack below step
 
 -- the result marked as number k, from 1
 abbrev pub IsMarked : List ℕ → ℕ → ℕ → Type 0
@@ -38,7 +38,7 @@ IsMarked saved (suc k) n = slice_get saved k ≡ Some n
 -- the effect of one item: a citation makes its step, a recall and a mark make none
 abbrev pub RecordsItem : Database → ℕ → Progress → Item → Progress → Type 0
 RecordsItem S at old (Cite label) new =
-    (below : List ℕ) × (step : Step) × (n : ℕ) × Makes S at label old.stack below step × IsPlaced old.steps step new.steps n
+    (below : List ℕ) × (step : Step) × (n : ℕ) × IsStepOf S at label old.stack below step × IsPlaced old.steps step new.steps n
     × (new.stack ≡ below ++ n ∷ []) × (new.saved ≡ old.saved)
 RecordsItem S at old (Recall k) new = (n : ℕ) × IsMarked old.saved k n × (new ≡ progress old.steps (old.stack ++ n ∷ []) old.saved)
 RecordsItem S at old Mark new = (below : List ℕ) × (n : ℕ) × (old.stack ≡ below ++ n ∷ []) × (new ≡ progress old.steps old.stack (old.saved ++ n ∷ []))

@@ -1,6 +1,6 @@
 -- The derivation that a table of steps unfolds to: each step applied to the derivations of the steps that it takes.
 -- Metamath, 4.2.6: a proof is a tree of citations; a table has each subtree once.
--- The code never unfolds a table, since a tree may be as large as two to the number of its steps.
+-- The code never unfolds a table: the tree may be exponentially larger.
 use Rattle.std.specs.Prelude.{Bool, false, if◌then◌else◌, List, [], ◌∷◌, ◌++◌, length, map, Option, Some, None, ◌-◌}
 use Rattle.steps.specs.Words.{Stmt, Database, stmt_at, is_assertion, Derivation, hyp, apply, from_list, pick}
 use Rattle.steps.specs.StepTable.{Step}

@@ -9,18 +9,18 @@ ghost use Rattle.verify.specs.HypothesisResults.{AreDifferent, IsTyped, AreRead}
 
 use entries::{AssertionView, SymbolPlaces};
 use std::alloc::AllocError;
-use subst::{Buffer, ImageRanges, Remaining, SYMBOLS_LIMIT, SymbolRange, range_between};
+use subst::{Buffer, ImageRanges, RemainingSymbols, SYMBOLS_LIMIT, SymbolRange, range_between};
 use verify::read_off;
 
-/// Returns the symbols of an expression whose images are not empty, if `symbol_places` is given and they are at most a quarter
-/// of the expression; otherwise the expression. Substituting in either gives the same result.
+/// Returns a shorter expression in which substitution gives the same result: the symbols whose images are not empty, if
+/// `symbol_places` is given and they are at most a quarter of the expression. Otherwise returns the expression.
 ///
 /// Errors: an allocation fails. Cost: the distinct symbols of the expression, and the symbols that are returned.
 fn shortened<'a>(
     images: &ImageRanges,
     expr: &'a [u32],
     symbol_places: Option<&SymbolPlaces>,
-    remaining: &'a mut Remaining,
+    remaining: &'a mut RemainingSymbols,
 ) -> Result<&'a [u32], AllocError>
     requires { IfSome symbol_places (λ places. ArePlacesOf expr.now places.now) }
     ensures { IfOk result (λ short. HaveSameResult images.now short.now expr.now) }
@@ -34,9 +34,9 @@ fn shortened<'a>(
     }
 }
 
-/// Appends to the buffer the conclusion of the assertion from the results in the ranges `places`,
-/// and returns its range. `symbol_places` has the places of the symbols in the assertion's
-/// expression.
+/// Appends the conclusion of the assertion to the buffer, and returns its range. `ranges` are those
+/// of the results that the citation takes. `symbol_places` has the places of the symbols in the
+/// assertion's expression.
 ///
 /// Errors: an allocation fails, or the expressions exceed `SYMBOLS_LIMIT` symbols. Cost: a step for
 /// each result, the symbols written, and the symbols of the expression, or only its distinct ones
@@ -44,21 +44,21 @@ fn shortened<'a>(
 pub fn conclude(
     symbols: &mut Buffer,
     images: &mut ImageRanges,
-    remaining: &mut Remaining,
+    remaining: &mut RemainingSymbols,
     cited: &AssertionView<'_>,
     symbol_places: Option<&SymbolPlaces>,
-    places: &[SymbolRange],
+    ranges: &[SymbolRange],
 ) -> Result<SymbolRange, AllocError>
     requires symbol_places { IfSome symbol_places (λ places. ArePlacesOf cited.now.conclusion.now places.now) }
-    requires same { length places.now ≡ length cited.now.hypotheses }
+    requires same { length ranges.now ≡ length cited.now.hypotheses }
     requires typecodes { length cited.now.typecodes.now ≡ length cited.now.hypotheses }
-    requires within { AreWithin (length symbols.old) places.now }
+    requires within { AreWithin (length symbols.old) ranges.now }
     requires different { AreDifferent cited.now.hypotheses }
     requires typed { (k x : ℕ) → slice_get cited.now.hypotheses k ≡ Some (Float x)
-        → IsTyped (get_or cited.now.typecodes.now k 0) (get_or (map (symbols_in symbols.old) places.now) k []) }
-    ensures added { OnOk result ((ρ : CodeImages) × AreRead cited.now.typecodes.now cited.now.hypotheses (map (symbols_in symbols.old) places.now) ρ
+        → IsTyped (get_or cited.now.typecodes.now k 0) (get_or (map (symbols_in symbols.old) ranges.now) k []) }
+    ensures added { OnOk result ((ρ : CodeImages) × AreRead cited.now.typecodes.now cited.now.hypotheses (map (symbols_in symbols.old) ranges.now) ρ
         × (symbols.new ≡ symbols.old ++ code_apply ρ cited.now.conclusion.now)) }
-    ensures place { IfOk result (λ place. (place.start ≡ length symbols.old) × (place.end ≡ length symbols.new)) }
+    ensures range { IfOk result (λ range. (range.start ≡ length symbols.old) × (range.end ≡ length symbols.new)) }
 {
     let start = symbols.len();
     let Some(_) = read_off(
@@ -66,7 +66,7 @@ pub fn conclude(
         symbols.as_slice(),
         cited.typecodes,
         &cited.hypotheses,
-        places,
+        ranges,
     )?
     else {
         unreachable!();

@@ -1,11 +1,11 @@
-//! Selects the essential steps: the last, and those that an essential step takes for a `$e`. A mark
-//! here is that of an essential step, not the mark `Z` of a compressed proof.
+//! Selects the essential steps: the last, and those that an essential step takes for a `$e`. Marks
+//! say here which steps are essential; they are not the marks `Z` of a compressed proof.
 ghost use Rattle.std.specs.Prelude.{◌≡◌, suc, ◌<◌, ◌≤◌, [], IfOk, OnOk, length, map, get_or};
 ghost use Rattle.frame.specs.Below.{AreBelow};
 ghost use Rattle.steps.specs.Rows.{no_row, steps_of, AreRows};
-ghost use Rattle.steps.specs.Essential.{essential_of, AreEssential};
-ghost use Rattle.steps.specs.Stored.LongLists.{AreKept};
-ghost use Rattle.steps.specs.Stored.Marked.{taken_by, mark_each, mark_last, AreMarkedFrom, AreMarks};
+ghost use Rattle.steps.specs.Essential.{premise_places, AreEssential};
+ghost use Rattle.steps.specs.Stored.LongLists.{AreListsOfAssertions};
+ghost use Rattle.steps.specs.Stored.Marked.{taken_for_essentials, mark_each, mark_last, AreMarkedFrom, AreMarks};
 
 use crate::long_lists::LongLists;
 use crate::steps_table::ProofTable;
@@ -22,7 +22,7 @@ fn premises_among(
     taken: &[usize],
 ) -> Result<Vec<usize>, AllocError>
     requires { length taken.now ≡ length hypotheses.now }
-    ensures { IfOk result (λ list. list.items ≡ taken_by hypotheses.now taken.now) }
+    ensures { IfOk result (λ list. list.items ≡ taken_for_essentials hypotheses.now taken.now) }
 {
     let mut list = Vec::new(alloc);
     for k in 0..hypotheses.len() {
@@ -46,16 +46,16 @@ fn premises_of(
     requires at { (1 ≤ at) × (at ≤ length frames.now.statements) }
     requires rows { AreRows frames.now.statements at frames.now.names table.now }
     requires place { place < length table.now }
-    requires kept { AreKept frames.now.statements frames.now.names lists.old.lists.items }
-    ensures premises { IfOk result (λ list. list.items ≡ essential_of frames.now.statements (get_or table.now place no_row).step) }
-    ensures kept { OnOk result (AreKept frames.now.statements frames.now.names lists.new.lists.items) }
+    requires lists { AreListsOfAssertions frames.now.statements frames.now.names lists.old.lists.items }
+    ensures premises { IfOk result (λ list. list.items ≡ premise_places frames.now.statements (get_or table.now place no_row).step) }
+    ensures lists { OnOk result (AreListsOfAssertions frames.now.statements frames.now.names lists.new.lists.items) }
 {
     let position = table.position(place);
     match frames.meaning(at, position) {
         Meaning::Assertion => {
-            let few = frames.whole_view(position);
-            let index = lists.index_of(frames, position, few.is_some())?;
-            let cited = lists.view_at(frames, position, few, index);
+            let whole_view = frames.whole_view(position);
+            let index = lists.index_of(frames, position, whole_view.is_some())?;
+            let cited = lists.view_at(frames, position, whole_view, index);
             premises_among(alloc, &cited.hypotheses, table.taken(place))
         }
         Meaning::Hypothesis(_) => Ok(Vec::new(alloc)),
@@ -74,7 +74,7 @@ fn mark_all(list: &[usize], marks: &mut [bool])
 }
 
 /// Marks the steps that the step at a place takes for a `$e`, if that step is kept.
-fn mark_step(
+fn mark_premises(
     alloc: Global,
     frames: &Frames,
     at: usize,
@@ -87,9 +87,9 @@ fn mark_step(
     requires rows { AreRows frames.now.statements at frames.now.names table.now }
     requires place { place < length table.now }
     requires marks { AreMarkedFrom frames.now.statements (steps_of table.now) (suc place) marks.old }
-    requires kept { AreKept frames.now.statements frames.now.names lists.old.lists.items }
+    requires lists { AreListsOfAssertions frames.now.statements frames.now.names lists.old.lists.items }
     ensures marks { OnOk result (AreMarkedFrom frames.now.statements (steps_of table.now) place marks.new) }
-    ensures kept { OnOk result (AreKept frames.now.statements frames.now.names lists.new.lists.items) }
+    ensures lists { OnOk result (AreListsOfAssertions frames.now.statements frames.now.names lists.new.lists.items) }
 {
     if marks[place] {
         let premises = premises_of(alloc, frames, at, table, place, lists)?;
@@ -109,8 +109,8 @@ fn last_marked(alloc: Global, count: usize) -> Result<Vec<bool>, AllocError>
     Ok(marks)
 }
 
-/// Returns for each step whether it is kept: the last is, and each that a kept step takes for a `$e`. A step takes
-/// only earlier steps, so the steps are visited from the last to the first.
+/// Returns for each step whether it is kept: the last is, and each that a kept step takes for a `$e`. Visits the steps from
+/// the last to the first, since a step takes only earlier steps.
 fn marks_of(
     alloc: Global,
     frames: &Frames,
@@ -125,13 +125,13 @@ fn marks_of(
     let mut lists = LongLists::new(alloc);
     let mut marks = last_marked(alloc, count)?;
     for place in (0..count).rev() {
-        mark_step(alloc, frames, at, table, place, &mut lists, &mut marks)?;
+        mark_premises(alloc, frames, at, table, place, &mut lists, &mut marks)?;
     }
     Ok(marks)
 }
 
 /// Returns the new number of the step at a place.
-fn number_at(numbers: &[usize], place: usize) -> usize
+fn new_number(numbers: &[usize], place: usize) -> usize
     requires { place < length numbers.now }
     ensures { result ≡ get_or numbers.now place 0 }
 {
@@ -145,7 +145,7 @@ fn renumbered(alloc: Global, list: &[usize], numbers: &[usize]) -> Result<Vec<us
 {
     let mut taken = Vec::new(alloc);
     for place in list {
-        taken.push(number_at(numbers, *place))?;
+        taken.push(new_number(numbers, *place))?;
     }
     Ok(taken)
 }

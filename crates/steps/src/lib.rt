@@ -1,19 +1,21 @@
-//! The steps of a proof as a table without duplicates, each step with its expression, the last the theorem's.
+//! The steps of a proof as a table without duplicates, each step with its expression. The expression of the last step is that
+//! of the theorem.
 //!
-//! The crates above use two contracts: `proof_table` returns the steps of the items of a right proof, each with the expression
-//! that its citation concludes from those that it takes, in the order in which the items make them; `essential_table` returns
-//! the essential steps of such a table: the last, and those that an essential step takes for a `$e`.
+//! `proof_table` returns the steps of a right proof in the order in which its items make them, each with the expression that
+//! its citation concludes. `essential_table` returns the essential steps of such a table: the last step, and those that an
+//! essential step takes for a `$e`. A place is the index of a step in the table, from 0.
 //!
-//! Reading order: `steps_table` (the table, and the call), `recording` (one item), `table_draft` (one citation), `concluding` (one
-//! conclusion), `long_lists` (long lists of hypotheses), `known` (finds equal steps), `essential` (the essential steps), `laws`.
+//! Reading order: `steps_table` (the table, and `proof_table`), `recording` (one item), `table_draft` (one citation),
+//! `concluding` (one conclusion), `long_lists` (long lists of hypotheses), `step_places` (finds equal steps), `essential` (the
+//! essential steps), `laws`.
 #![tactic(auto)]
 
 mod concluding;
 mod essential;
-mod known;
 pub mod laws;
 mod long_lists;
 mod recording;
+mod step_places;
 mod steps_table;
 mod table_draft;
 

@@ -6,7 +6,7 @@ ghost use Rattle.scope.specs.Active.{stmt_at};
 ghost use Rattle.entries.specs.Hypotheses.{decoded_hypothesis};
 ghost use Rattle.frame.specs.AssertionView.{IsViewOf};
 ghost use Rattle.frame.specs.FrameOf.{HasAssertion};
-ghost use Rattle.steps.specs.Stored.LongLists.{AreKept, AreMadeOf, HasPartsOf, IsAt};
+ghost use Rattle.steps.specs.Stored.LongLists.{AreListsOfAssertions, IsCopyOf, IsViewUpToGroups, IsListAt};
 
 use entries::{AssertionView, Groups, Hypotheses, number_of};
 use frame::{FrameBuffers, Frames};
@@ -44,7 +44,7 @@ impl HypothesisList {
         position: usize,
         cited: &AssertionView<'_>,
     ) -> Result<HypothesisList, AllocError>
-        ensures { IfOk result (AreMadeOf position cited.now) }
+        ensures { IfOk result (IsCopyOf position cited.now) }
     {
         let mut typecodes = Vec::new(alloc);
         typecodes.extend_from_slice(cited.typecodes)?;
@@ -89,7 +89,7 @@ fn copy_hypotheses(
 /// The lists of each cited assertion that has long lists, for one table.
 ///
 /// A citation takes a result for each mandatory hypothesis, and each item adds at most one result. So the lists of the assertions
-/// that a right proof cites have at most as many hypotheses as the proof has items.
+/// that a right proof cites have together at most as many hypotheses as the proof has items.
 #[derive(Drop)]
 pub struct LongLists {
     /// Where lists are allocated.
@@ -115,11 +115,11 @@ impl LongLists {
         }
     }
 
-    /// Returns the index of the list of the assertion at a position, if it is kept.
+    /// Returns the index of the list of the assertion at a position, if there is one.
     ///
     /// Cost: log n for n lists.
     fn find(&self, position: usize) -> Option<usize>
-        ensures { IfSome result (λ i. IsAt self.now.lists.items i position) }
+        ensures { IfSome result (λ i. IsListAt self.now.lists.items i position) }
     {
         let index = *self.indexes.get(&position)?;
         if index < self.lists.len() && self.lists[index].position == position {
@@ -132,11 +132,11 @@ impl LongLists {
     /// Lists the hypotheses of the assertion at a position, and returns the index of the list.
     ///
     /// Errors: an allocation fails. Cost: that of `Frames::fill_buffers`.
-    fn keep(&mut self, frames: &Frames, position: usize) -> Result<usize, AllocError>
+    fn add_list(&mut self, frames: &Frames, position: usize) -> Result<usize, AllocError>
         requires assertion { (s : Statement) × HasAssertion frames.now.statements position s }
-        requires kept { AreKept frames.now.statements frames.now.names self.old.lists.items }
-        ensures kept { OnOk result (AreKept frames.now.statements frames.now.names self.new.lists.items) }
-        ensures index { IfOk result (λ i. IsAt self.new.lists.items i position) }
+        requires lists { AreListsOfAssertions frames.now.statements frames.now.names self.old.lists.items }
+        ensures lists { OnOk result (AreListsOfAssertions frames.now.statements frames.now.names self.new.lists.items) }
+        ensures index { IfOk result (λ i. IsListAt self.new.lists.items i position) }
     {
         frames.fill_buffers(position, &mut self.buffers)?;
         let cited = frames.buffered_view(position, &self.buffers);
@@ -147,8 +147,8 @@ impl LongLists {
         Ok(index)
     }
 
-    /// Returns the index of the list of the assertion at a position, which is made if there is none
-    /// yet. If `are_few`, no list is needed, and the index is not used.
+    /// Returns the index of the list of the assertion at a position. Makes the list if there is none
+    /// yet. If `has_whole_view`, no list is needed, and the index is 0 and not used.
     ///
     /// Errors: an allocation fails. Cost: log n for n lists, and once for each assertion that of
     /// `Frames::fill_buffers`.
@@ -156,38 +156,38 @@ impl LongLists {
         &mut self,
         frames: &Frames,
         position: usize,
-        are_few: bool,
+        has_whole_view: bool,
     ) -> Result<usize, AllocError>
         requires assertion { (s : Statement) × HasAssertion frames.now.statements position s }
-        requires kept { AreKept frames.now.statements frames.now.names self.old.lists.items }
-        ensures kept { OnOk result (AreKept frames.now.statements frames.now.names self.new.lists.items) }
-        ensures index { IfOk result (λ i. are_few ≡ false → IsAt self.new.lists.items i position) }
+        requires lists { AreListsOfAssertions frames.now.statements frames.now.names self.old.lists.items }
+        ensures lists { OnOk result (AreListsOfAssertions frames.now.statements frames.now.names self.new.lists.items) }
+        ensures index { IfOk result (λ i. has_whole_view ≡ false → IsListAt self.new.lists.items i position) }
     {
-        if are_few {
+        if has_whole_view {
             return Ok(0);
         }
         match self.find(position) {
             Some(index) => Ok(index),
-            None => self.keep(frames, position),
+            None => self.add_list(frames, position),
         }
     }
 
-    /// Returns a view of the assertion at a position: `few` if it is given, else a view of the list at an index, without
+    /// Returns a view of the assertion at a position: `whole_view` if it is given, else a view of the list at an index, without
     /// groups of disjoint variables.
     pub fn view_at<'a>(
         &'a self,
         frames: &'a Frames,
         position: usize,
-        few: Option<AssertionView<'a>>,
+        whole_view: Option<AssertionView<'a>>,
         index: usize,
     ) -> AssertionView<'a>
         requires assertion { (s : Statement) × HasAssertion frames.now.statements position s }
-        requires few { (s : Statement) → stmt_at frames.now.statements position ≡ Some s → IfSome few (IsViewOf frames.now.statements frames.now.names position s) }
-        requires index { is_some few ≡ false → IsAt self.now.lists.items index position }
-        requires kept { AreKept frames.now.statements frames.now.names self.now.lists.items }
-        ensures { (s : Statement) → stmt_at frames.now.statements position ≡ Some s → HasPartsOf frames.now.statements frames.now.names position s result }
+        requires whole_view { (s : Statement) → stmt_at frames.now.statements position ≡ Some s → IfSome whole_view (IsViewOf frames.now.statements frames.now.names position s) }
+        requires index { is_some whole_view ≡ false → IsListAt self.now.lists.items index position }
+        requires lists { AreListsOfAssertions frames.now.statements frames.now.names self.now.lists.items }
+        ensures { (s : Statement) → stmt_at frames.now.statements position ≡ Some s → IsViewUpToGroups frames.now.statements frames.now.names position s result }
     {
-        match few {
+        match whole_view {
             Some(cited) => cited,
             None => self.lists[index].view(frames.expr(position)),
         }

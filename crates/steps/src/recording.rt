@@ -6,11 +6,11 @@ ghost use Rattle.frame.specs.Citations.{Carries};
 ghost use Rattle.frame.specs.AtPosition.{ArePositions, HasLegalProperties};
 ghost use Rattle.proof_code.specs.declared.item.Item.TheVariants.{Cite, Recall, Mark};
 ghost use Rattle.proof_code.specs.ItemNumbers.{item_of};
-ghost use Rattle.steps.specs.Stored.Drafted.{IsDraft, CanDo, IsDone};
-ghost use Rattle.steps.specs.Stored.LongLists.{AreKept};
+ghost use Rattle.steps.specs.Stored.Drafted.{IsDraft, RunDoes, IsItemRecorded};
+ghost use Rattle.steps.specs.Stored.LongLists.{AreListsOfAssertions};
 
 use crate::long_lists::LongLists;
-use crate::table_draft::{TableDraft, cite_hypothesis, cite_parts};
+use crate::table_draft::{TableDraft, cite_assertion, cite_hypothesis};
 use frame::{Frames, Meaning};
 use std::alloc::{AllocError, Global};
 
@@ -19,9 +19,9 @@ use std::alloc::{AllocError, Global};
 /// Errors: an allocation fails.
 fn mark(frames: &Frames, at: usize, draft: &mut TableDraft) -> Result<(), AllocError>
     requires draft { IsDraft frames.now.statements at frames.now.names draft.old }
-    requires can { CanDo frames.now.statements at frames.now.names draft.old Mark }
+    requires can { RunDoes frames.now.statements at frames.now.names draft.old Mark }
     ensures draft { OnOk result (IsDraft frames.now.statements at frames.now.names draft.new) }
-    ensures done { OnOk result (IsDone frames.now.statements at frames.now.names draft.old Mark draft.new) }
+    ensures done { OnOk result (IsItemRecorded frames.now.statements at frames.now.names draft.old Mark draft.new) }
 {
     let last = draft.stack.len() - 1;
     let place = draft.stack[last];
@@ -29,14 +29,19 @@ fn mark(frames: &Frames, at: usize, draft: &mut TableDraft) -> Result<(), AllocE
     Ok(())
 }
 
-/// Pushes the marked result number `k`, counted from 0.
-fn recall(frames: &Frames, at: usize, k: usize, draft: &mut TableDraft) -> Result<(), AllocError>
+/// Pushes the marked result at an index, from 0.
+fn recall(
+    frames: &Frames,
+    at: usize,
+    index: usize,
+    draft: &mut TableDraft,
+) -> Result<(), AllocError>
     requires draft { IsDraft frames.now.statements at frames.now.names draft.old }
-    requires can { CanDo frames.now.statements at frames.now.names draft.old (Recall (suc k)) }
+    requires can { RunDoes frames.now.statements at frames.now.names draft.old (Recall (suc index)) }
     ensures draft { OnOk result (IsDraft frames.now.statements at frames.now.names draft.new) }
-    ensures done { OnOk result (IsDone frames.now.statements at frames.now.names draft.old (Recall (suc k)) draft.new) }
+    ensures done { OnOk result (IsItemRecorded frames.now.statements at frames.now.names draft.old (Recall (suc index)) draft.new) }
 {
-    let place = draft.saved[k];
+    let place = draft.saved[index];
     draft.stack.push(place)?;
     Ok(())
 }
@@ -54,27 +59,27 @@ fn cite(
     requires place { (1 ≤ at) × (at ≤ length frames.now.statements) }
     requires draft { IsDraft frames.now.statements at frames.now.names draft.old }
     requires can { (label : Name) × (s : Statement) × Carries frames.now.statements position s label
-        × CanDo frames.now.statements at frames.now.names draft.old (Cite label) }
-    requires kept { AreKept frames.now.statements frames.now.names lists.old.lists.items }
+        × RunDoes frames.now.statements at frames.now.names draft.old (Cite label) }
+    requires lists { AreListsOfAssertions frames.now.statements frames.now.names lists.old.lists.items }
     ensures draft { OnOk result (IsDraft frames.now.statements at frames.now.names draft.new) }
     ensures done { OnOk result ((label : Name) (s : Statement) → Carries frames.now.statements position s label
-        → IsDone frames.now.statements at frames.now.names draft.old (Cite label) draft.new) }
-    ensures kept { OnOk result (AreKept frames.now.statements frames.now.names lists.new.lists.items) }
+        → IsItemRecorded frames.now.statements at frames.now.names draft.old (Cite label) draft.new) }
+    ensures lists { OnOk result (AreListsOfAssertions frames.now.statements frames.now.names lists.new.lists.items) }
 {
     match frames.meaning(at, position) {
         Meaning::Hypothesis(expr) => cite_hypothesis(alloc, draft, position, expr),
         Meaning::Assertion => {
-            let few = frames.whole_view(position);
-            let index = lists.index_of(frames, position, few.is_some())?;
-            let cited = lists.view_at(frames, position, few, index);
-            cite_parts(alloc, draft, position, &cited, frames.places(position))
+            let whole_view = frames.whole_view(position);
+            let index = lists.index_of(frames, position, whole_view.is_some())?;
+            let cited = lists.view_at(frames, position, whole_view, index);
+            cite_assertion(alloc, draft, position, &cited, frames.places(position))
         }
         Meaning::Nothing => unreachable!(),
     }
 }
 
-/// Records the effect of an item, by its number: 0 is a mark, the next numbers are the labels,
-/// whose `positions` are given, and those after them the marked results.
+/// Records the effect of the item with a number (`proof_code::ItemParts`): 0 is a mark, the next
+/// numbers are the labels, whose `positions` are given, and those after them the marked results.
 ///
 /// Errors: an allocation fails.
 pub fn record_item(
@@ -90,12 +95,12 @@ pub fn record_item(
     requires place { (1 ≤ at) × (at ≤ length frames.now.statements) }
     requires draft { IsDraft frames.now.statements at frames.now.names draft.old }
     requires can { (labels : List Name) × ArePositions frames.now.statements labels positions.now
-        × CanDo frames.now.statements at frames.now.names draft.old (item_of labels number) }
-    requires kept { AreKept frames.now.statements frames.now.names lists.old.lists.items }
+        × RunDoes frames.now.statements at frames.now.names draft.old (item_of labels number) }
+    requires lists { AreListsOfAssertions frames.now.statements frames.now.names lists.old.lists.items }
     ensures draft { OnOk result (IsDraft frames.now.statements at frames.now.names draft.new) }
     ensures done { OnOk result ((labels : List Name) → ArePositions frames.now.statements labels positions.now
-        → IsDone frames.now.statements at frames.now.names draft.old (item_of labels number) draft.new) }
-    ensures kept { OnOk result (AreKept frames.now.statements frames.now.names lists.new.lists.items) }
+        → IsItemRecorded frames.now.statements at frames.now.names draft.old (item_of labels number) draft.new) }
+    ensures lists { OnOk result (AreListsOfAssertions frames.now.statements frames.now.names lists.new.lists.items) }
 {
     if number == 0 {
         return mark(frames, at, draft);

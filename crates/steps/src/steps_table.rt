@@ -9,7 +9,7 @@ ghost use Rattle.steps.specs.Unfolded.{last_unfolded};
 
 use crate::long_lists::LongLists;
 use crate::recording::record_item;
-use crate::table_draft::{PlacedStep, TableDraft};
+use crate::table_draft::{StoredStep, TableDraft};
 use frame::Frames;
 use proof_code::Items;
 use std::alloc::{AllocError, Global};
@@ -20,7 +20,7 @@ use subst::{Buffer, SYMBOLS_LIMIT, range_between, symbols_at};
 #[derive(Drop)]
 pub struct ProofTable {
     /// The steps, each with the range of its expression.
-    placed: Vec<PlacedStep>,
+    stored: Vec<StoredStep>,
     /// The symbols of all expressions.
     symbols: Buffer,
 }
@@ -32,9 +32,9 @@ impl Model for ProofTable {
 
     ghost Value = { List Row };
 
-    ghost view = { λ a. map (row_of a.symbols) a.placed.items };
+    ghost view = { λ a. map (row_of a.symbols) a.stored.items };
 
-    ghost invariant = { λ a. AreInBuffer (length a.symbols) a.placed.items };
+    ghost invariant = { λ a. AreInBuffer (length a.symbols) a.stored.items };
 }
 
 impl ProofTable {
@@ -43,7 +43,7 @@ impl ProofTable {
         ensures { result ≡ [] }
     {
         ProofTable {
-            placed: Vec::new(alloc),
+            stored: Vec::new(alloc),
             symbols: Buffer::new(alloc),
         }
     }
@@ -64,11 +64,11 @@ impl ProofTable {
             return Err(AllocError);
         }
         self.symbols.extend(expr)?;
-        let place = range_between(start, self.symbols.len());
-        self.placed.push(PlacedStep {
+        let range = range_between(start, self.symbols.len());
+        self.stored.push(StoredStep {
             position,
             taken,
-            place,
+            range,
         })?;
         Ok(())
     }
@@ -77,7 +77,7 @@ impl ProofTable {
     pub fn len(&self) -> usize
         ensures { result ≡ length self.now }
     {
-        self.placed.len()
+        self.stored.len()
     }
 
     /// Returns the position of the statement that the step at a place cites. A place is the index
@@ -86,7 +86,7 @@ impl ProofTable {
         requires { place < length self.now }
         ensures { result ≡ (get_or self.now place no_row).step.position }
     {
-        self.placed[place].position
+        self.stored[place].position
     }
 
     /// Returns the places of the steps whose results the step at a place takes, in the order of the hypotheses.
@@ -94,7 +94,7 @@ impl ProofTable {
         requires { place < length self.now }
         ensures { result.now ≡ (get_or self.now place no_row).step.taken }
     {
-        self.placed[place].taken.as_slice()
+        self.stored[place].taken.as_slice()
     }
 
     /// Returns the numbers of the symbols of the expression of the step at a place.
@@ -102,7 +102,7 @@ impl ProofTable {
         requires { place < length self.now }
         ensures { result.now ≡ (get_or self.now place no_row).expr }
     {
-        symbols_at(self.symbols.as_slice(), self.placed[place].place)
+        symbols_at(self.symbols.as_slice(), self.stored[place].range)
     }
 }
 
@@ -134,7 +134,7 @@ pub fn proof_table(
         )?;
     }
     Ok(ProofTable {
-        placed: draft.placed,
+        stored: draft.stored,
         symbols: draft.symbols,
     })
 }

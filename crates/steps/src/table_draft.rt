@@ -7,75 +7,75 @@ ghost use Rattle.entries.specs.declared.assertion_view.Hypothesis.TheVariants.{F
 ghost use Rattle.frame.specs.Below.{AreBelow};
 ghost use Rattle.verify.specs.HypothesisResults.{AreDifferent, IsTyped};
 ghost use Rattle.verify.specs.ResultPlaces.{top};
-ghost use Rattle.steps.specs.Stored.Drafted.{IsDraft, IsWellFormed, Adds, GivesHypothesis, GivesAssertion, range_in, codes_in};
+ghost use Rattle.steps.specs.Stored.Drafted.{IsDraft, IsWellFormed, AddsStep, CitesHypothesis, CitesAssertion, range_in, codes_in};
 
 use crate::concluding::conclude;
-use crate::known::{find, keep, key};
+use crate::step_places::{find_place, record_place, step_key};
 use entries::{AssertionView, SymbolPlaces};
 use std::alloc::{AllocError, Global};
 use std::collections::BTreeMap;
-use subst::{Buffer, ImageRanges, Remaining, SYMBOLS_LIMIT, SymbolRange, range_between};
+use subst::{Buffer, ImageRanges, RemainingSymbols, SYMBOLS_LIMIT, SymbolRange, range_between};
 
-/// A step, and the range of its expression in the buffer.
+/// A step, with the range of its expression in a buffer.
 #[derive(Drop)]
-pub struct PlacedStep {
+pub struct StoredStep {
     /// The position of the cited statement.
     pub position: usize,
     /// The places in the table of the steps whose results it takes.
     pub taken: Vec<usize>,
     /// The range of its expression.
-    pub place: SymbolRange,
+    pub range: SymbolRange,
 }
 
 /// The steps so far, with the stack of results, the marked results, and buffers.
 #[derive(Drop)]
 pub struct TableDraft {
     /// The steps.
-    pub placed: Vec<PlacedStep>,
+    pub stored: Vec<StoredStep>,
     /// The expressions of the steps, one after another.
     pub symbols: Buffer,
     /// The places of the steps of the results on the stack.
     pub stack: Vec<usize>,
     /// The places of the steps of the results that were marked.
     pub saved: Vec<usize>,
-    /// The place of a step, by the position that it cites and the places that it takes.
-    pub known: BTreeMap<Vec<usize>, usize>,
+    /// The place of each step, by its key (`step_key`).
+    pub step_places: BTreeMap<Vec<usize>, usize>,
     /// A buffer for the images of a citation.
     pub images: ImageRanges,
     /// A buffer for the symbols that are left of a long expression without those whose images are
     /// empty.
-    pub remaining: Remaining,
+    pub remaining: RemainingSymbols,
     /// A buffer for the ranges of the results that a citation takes.
-    pub places: Vec<SymbolRange>,
+    pub ranges: Vec<SymbolRange>,
 }
 
 impl TableDraft {
     /// Returns a draft without steps.
     pub fn new(alloc: Global) -> TableDraft
         ensures draft { (S : List Statement) (at : ℕ) (names : List Name) → IsDraft S at names result }
-        ensures empty { (result.placed.items ≡ []) × (result.stack.items ≡ []) × (result.saved.items ≡ []) }
+        ensures empty { (result.stored.items ≡ []) × (result.stack.items ≡ []) × (result.saved.items ≡ []) }
     {
         TableDraft {
-            placed: Vec::new(alloc),
+            stored: Vec::new(alloc),
             symbols: Buffer::new(alloc),
             stack: Vec::new(alloc),
             saved: Vec::new(alloc),
-            known: BTreeMap::new(alloc),
+            step_places: BTreeMap::new(alloc),
             images: ImageRanges::new(alloc),
-            remaining: Remaining::new(alloc),
-            places: Vec::new(alloc),
+            remaining: RemainingSymbols::new(alloc),
+            ranges: Vec::new(alloc),
         }
     }
 }
 
 /// Appends a step that is not in the table yet, and pushes its result.
-fn add_step(draft: &mut TableDraft, key: Vec<usize>, step: PlacedStep) -> Result<(), AllocError>
+fn add_step(draft: &mut TableDraft, key: Vec<usize>, step: StoredStep) -> Result<(), AllocError>
     requires { key.items ≡ step.position ∷ step.taken.items }
-    ensures { OnOk result (Adds draft.old draft.new step) }
+    ensures { OnOk result (AddsStep draft.old draft.new step) }
 {
-    let place = draft.placed.len();
-    draft.placed.push(step)?;
-    keep(&mut draft.known, key, place)?;
+    let place = draft.stored.len();
+    draft.stored.push(step)?;
+    record_place(&mut draft.step_places, key, place)?;
     draft.stack.push(place)?;
     Ok(())
 }
@@ -90,10 +90,10 @@ pub fn cite_hypothesis(
     position: usize,
     expr: &[u32],
 ) -> Result<(), AllocError>
-    ensures { OnOk result (GivesHypothesis draft.old draft.new position expr.now) }
+    ensures { OnOk result (CitesHypothesis draft.old draft.new position expr.now) }
 {
-    let key = key(alloc, position, &[])?;
-    if let Some(place) = find(&draft.known, &key) {
+    let key = step_key(alloc, position, &[])?;
+    if let Some(place) = find_place(&draft.step_places, &key) {
         draft.stack.push(place)?;
         return Ok(());
     }
@@ -102,50 +102,50 @@ pub fn cite_hypothesis(
         return Err(AllocError);
     }
     draft.symbols.extend(expr)?;
-    let place = range_between(start, draft.symbols.len());
+    let range = range_between(start, draft.symbols.len());
     let taken = Vec::new(alloc);
     add_step(
         draft,
         key,
-        PlacedStep {
+        StoredStep {
             position,
             taken,
-            place,
+            range,
         },
     )
 }
 
 /// Returns the range of the expression of the step at a place.
-fn range_at(placed: &[PlacedStep], number: usize) -> SymbolRange
-    requires { number < length placed.now }
-    ensures { result ≡ range_in placed.now number }
+fn range_at(stored: &[StoredStep], place: usize) -> SymbolRange
+    requires { place < length stored.now }
+    ensures { result ≡ range_in stored.now place }
 {
-    placed[number].place
+    stored[place].range
 }
 
-/// Fills the list with the ranges of the expressions of these steps.
+/// Sets `ranges` to the ranges of the expressions of the steps at the places `taken`.
 fn fill_ranges(
-    placed: &[PlacedStep],
+    stored: &[StoredStep],
     taken: &[usize],
-    places: &mut Vec<SymbolRange>,
+    ranges: &mut Vec<SymbolRange>,
 ) -> Result<(), AllocError>
-    requires { AreBelow (length placed.now) taken.now }
-    ensures { OnOk result (places.new.items ≡ map (range_in placed.now) taken.now) }
+    requires { AreBelow (length stored.now) taken.now }
+    ensures { OnOk result (ranges.new.items ≡ map (range_in stored.now) taken.now) }
 {
-    places.clear();
-    for number in taken {
-        places.push(range_at(placed, *number))?;
+    ranges.clear();
+    for place in taken {
+        ranges.push(range_at(stored, *place))?;
     }
     Ok(())
 }
 
-/// Cites an assertion, given a view of it and, if they are known, the places of the symbols in its
-/// expression: pops the results for its hypotheses and pushes its own, and makes its step if there
-/// is none yet.
+/// Cites an assertion: pops the results for its hypotheses and pushes its own, and makes its step if
+/// there is none yet. `symbol_places` has the places of the symbols in the assertion's expression, if
+/// they are known.
 ///
 /// Errors: an allocation fails, or the expressions exceed `SYMBOLS_LIMIT` symbols. Cost: a look-up
 /// among the steps; for a new one that of `conclude`.
-pub fn cite_parts(
+pub fn cite_assertion(
     alloc: Global,
     draft: &mut TableDraft,
     position: usize,
@@ -159,31 +159,31 @@ pub fn cite_parts(
     requires different { AreDifferent cited.now.hypotheses }
     requires typed { (k x : ℕ) → slice_get cited.now.hypotheses k ≡ Some (Float x)
         → IsTyped (get_or cited.now.typecodes.now k 0) (get_or (map (codes_in draft.old) (top (length cited.now.hypotheses) draft.old.stack.items)) k []) }
-    ensures { OnOk result (GivesAssertion draft.old draft.new position cited.now) }
+    ensures { OnOk result (CitesAssertion draft.old draft.new position cited.now) }
 {
     let kept = draft.stack.len() - cited.hypotheses.len();
     let taken = draft.stack.split_off(kept)?;
-    let key = key(alloc, position, &taken)?;
-    if let Some(place) = find(&draft.known, &key) {
+    let key = step_key(alloc, position, &taken)?;
+    if let Some(place) = find_place(&draft.step_places, &key) {
         draft.stack.push(place)?;
         return Ok(());
     }
-    fill_ranges(&draft.placed, &taken, &mut draft.places)?;
-    let place = conclude(
+    fill_ranges(&draft.stored, &taken, &mut draft.ranges)?;
+    let range = conclude(
         &mut draft.symbols,
         &mut draft.images,
         &mut draft.remaining,
         cited,
         symbol_places,
-        &draft.places,
+        &draft.ranges,
     )?;
     add_step(
         draft,
         key,
-        PlacedStep {
+        StoredStep {
             position,
             taken,
-            place,
+            range,
         },
     )
 }

@@ -1,5 +1,5 @@
 -- The variables of one active `$d` are pairwise disjoint.
-use Rattle.subst.proofs.Words.{◌≡◌, ℕ, ◌+◌, ◌<◌, ◌&&◌, ◌||◌, ◌==◌, true, false, not, true≢false, List, length, take, get_or, list_any, bit_at, bit_or, Option, Some, refl, sym, ◌∙◌, ap, subst, arith, inl, inr, and_from, or_left, or_right, eq-eqb, list_any_at, get_or-take, length-take, below-at, name_at, is_pair, AreBelow, Numbered, MetVariables, IsAt, IsPlace, Grows, IsAmong, AreBitsOf, PlaceWord, RowWord, IsFact, AreFacts, ArePairs, RecordsWord}
+use Rattle.subst.proofs.Words.{◌≡◌, ℕ, ◌+◌, ◌<◌, ◌&&◌, ◌||◌, ◌==◌, true, false, not, true≢false, List, length, take, get_or, list_any, bit_at, bit_or, Option, Some, refl, sym, ◌∙◌, ap, subst, arith, inl, inr, and_from, or_left, or_right, eq-eqb, list_any_at, get_or-take, length-take, below-at, name_at, is_pair, AreBelow, Numbered, MetVariables, IsAt, IsPlaceOf, Grows, IsAmong, AreBitsOf, PlaceWord, RowWord, IsFact, AreFacts, ArePairs, RecordsWord}
 use Rattle.subst.proofs.BitsLemmas.{differ, zero-none, or-either}
 use Rattle.subst.proofs.VariablePlaceLemmas.{among-before, among-last}
 use Rattle.subst.proofs.DisjointRowLemmas.{facts-recorded}
@@ -31,9 +31,9 @@ some-same i j o a b = cc
 
 -- the next symbol adds the bit of its place
 module _ (v : Numbered) (f : MetVariables) (bits bit n : ℕ) (list : List ℕ) (place : Option ℕ) (low : n < length list) (h : AreBitsOf f bits n list) (none : list_any (λ y. y == get_or list n 0) (take n list) ≡ false)
-    (is : (j : ℕ) → bit_at bit j ≡ 1 → place ≡ Some j) (at : IsPlace v f (get_or list n 0) place) where
+    (is : (j : ℕ) → bit_at bit j ≡ 1 → place ≡ Some j) (at : IsPlaceOf v f (get_or list n 0) place) where
   own : (j : ℕ) → bit_at bit j ≡ 1 → IsAt f j (get_or list n 0)
-  own j b = subst (IsPlace v f (get_or list n 0)) (is j b) at
+  own j b = subst (IsPlaceOf v f (get_or list n 0)) (is j b) at
 
   -- a place of an earlier symbol is not a place of the last one
   other : (i j x : ℕ) → bit_at bits i ≡ 1 → bit_at bit j ≡ 1 → IsAt f i x → IsAt f j x → ⊥

@@ -1,5 +1,5 @@
 -- Variables that were found to be disjoint.
-use Rattle.subst.proofs.Words.{◌≡◌, ℕ, ◌+◌, ◌*◌, ◌^◌, ◌<◌, ◌≤◌, ◌⊎◌, true, List, [], ◌∷◌, ◌++◌, length, get_or, slice_set, bit_at, bit_and, bit_not, bit_or, w64, sym, ◌∙◌, ap, subst, arith, inl, inr, cases_eq, cases_lt, get_or_append_left, get_or_push, get_or-set_same, get_or-set_other, length-set, length_push, Numbered, PlaceWord, HasAmong, HasBit, HasPlace, near_word, no_word, RowWord, no_row, IsRowAt, HasFact, IsFact, AreFacts, RecordsWord, DecidesWord, DecidesAll, DecidesBits, DecidesEach, MetVariables, are_places_disjoint, Grows}
+use Rattle.subst.proofs.Words.{◌≡◌, ℕ, ◌+◌, ◌*◌, ◌^◌, ◌<◌, ◌≤◌, ◌⊎◌, true, List, [], ◌∷◌, ◌++◌, length, get_or, slice_set, bit_at, bit_and, bit_not, bit_or, w64, sym, ◌∙◌, ap, subst, arith, inl, inr, cases_eq, cases_lt, get_or_append_left, get_or_push, get_or-set_same, get_or-set_other, length-set, length_push, Numbered, PlaceWord, HasPlaceAmong, HasBit, HasPlace, first_word, no_word, RowWord, no_row_word, IsRowWordAt, HasFact, IsFact, AreFacts, RecordsWord, DecidesPlaceAndWord, DecidesPlaceAndWords, DecidesWordAndWords, DecidesWordsAndWords, MetVariables, are_places_disjoint, Grows}
 use Rattle.subst.proofs.BitsLemmas.{zero-none, or-either, and-left, and-rest, IsTaken}
 use Rattle.subst.proofs.VariablePlaceLemmas.{kept-grown, place-grown}
 use Rattle.subst.proofs.PlaceSetLemmas.{word-alone, word-more}
@@ -14,7 +14,7 @@ pub facts-grown : (v : Numbered) (f g : MetVariables) (ws : List RowWord) → Gr
 facts-grown v f g ws grows facts = record { each = λ p q h. fact-grown v f g p q grows (facts.each p q h) }
 
 -- a bit that is set in the row found is a fact
-pub row-fact : (ws : List RowWord) (p index k b : ℕ) → IsRowAt ws p index k → bit_at (get_or ws k no_row).bits b ≡ 1 → HasFact ws p (64 * index + b)
+pub row-fact : (ws : List RowWord) (p index k b : ℕ) → IsRowWordAt ws p index k → bit_at (get_or ws k no_row_word).bits b ≡ 1 → HasFact ws p (64 * index + b)
 row-fact ws p index k b at set = record { word = k; there = at.there; row = at.place_same; bit = b; place = ap (λ n. 64 * n + b) (sym at.index_same); set = set }
 
 -- a row is appended
@@ -27,10 +27,10 @@ module _ (ws : List RowWord) (p : ℕ) (w : PlaceWord) where
       let low = h.there in
       elim (cases_lt h.word (length ws)) [
         | inl before ↦
-            let e = get_or_append_left ws (new_row ∷ []) no_row h.word before in
+            let e = get_or_append_left ws (new_row ∷ []) no_row_word h.word before in
             inl (record { word = h.word; there = before; row = ap (λ (u : RowWord). u.place) (sym e) ∙ h.row; bit = h.bit; place = h.place ∙ ap (λ (u : RowWord). 64 * u.index + h.bit) e; set = ap (λ (u : RowWord). bit_at u.bits h.bit) (sym e) ∙ h.set })
         | inr last ↦
-            let e = get_or_push ws new_row no_row h.word (omega (arith, low, last, length_push ws new_row)) in
+            let e = get_or_push ws new_row no_row_word h.word (omega (arith, low, last, length_push ws new_row)) in
             inr (sym h.row ∙ ap (λ (u : RowWord). u.place) e, record { bit = h.bit; place = h.place ∙ ap (λ (u : RowWord). 64 * u.index + h.bit) e; set = ap (λ (u : RowWord). bit_at u.bits h.bit) (sym e) ∙ h.set })
       ]
 
@@ -38,7 +38,7 @@ module _ (ws : List RowWord) (p : ℕ) (w : PlaceWord) where
   records-pushed = record { only = pushed-fact }
 
 -- bits are added to the row that was found
-module _ (ws : List RowWord) (p k bits : ℕ) (w : PlaceWord) (at : IsRowAt ws p w.index k) (own : (get_or ws k no_row).bits ≡ bits) where
+module _ (ws : List RowWord) (p k bits : ℕ) (w : PlaceWord) (at : IsRowWordAt ws p w.index k) (own : (get_or ws k no_row_word).bits ≡ bits) where
   abbrev longer : RowWord
   longer = record { place = p; index = w.index; bits = bit_or bits w.bits }
 
@@ -47,7 +47,7 @@ module _ (ws : List RowWord) (p k bits : ℕ) (w : PlaceWord) (at : IsRowAt ws p
       let low = h.there in
       elim (cases_eq h.word k) [
         | inl same ↦
-            let e = ap (λ n. get_or (slice_set ws k longer) n no_row) same ∙ get_or-set_same ws k longer no_row at.there in
+            let e = ap (λ n. get_or (slice_set ws k longer) n no_row_word) same ∙ get_or-set_same ws k longer no_row_word at.there in
             let first = ap (λ (u : RowWord). u.place) (sym e) ∙ h.row in
             let place = h.place ∙ ap (λ (u : RowWord). 64 * u.index + h.bit) e in
             elim (or-either bits w.bits h.bit (ap (λ (u : RowWord). bit_at u.bits h.bit) (sym e) ∙ h.set)) [
@@ -55,7 +55,7 @@ module _ (ws : List RowWord) (p k bits : ℕ) (w : PlaceWord) (at : IsRowAt ws p
               | inr new ↦ inr (sym first, record { bit = h.bit; place = place; set = new })
             ]
         | inr other ↦
-            let e = get_or-set_other ws k h.word longer no_row other in
+            let e = get_or-set_other ws k h.word longer no_row_word other in
             inl (record { word = h.word; there = omega (arith, low, length-set ws k longer); row = ap (λ (u : RowWord). u.place) (sym e) ∙ h.row; bit = h.bit; place = h.place ∙ ap (λ (u : RowWord). 64 * u.index + h.bit) e; set = ap (λ (u : RowWord). bit_at u.bits h.bit) (sym e) ∙ h.set })
       ]
 
@@ -79,17 +79,17 @@ pub record AreToldFirst (v : Numbered) (f : MetVariables) (p : ℕ) (ws : List P
 pub told-none : (v : Numbered) (f : MetVariables) (p : ℕ) (ws : List PlaceWord) → AreToldFirst v f p ws 0
 told-none v f p ws = record { each = λ k q h b. absurd (omega (arith, h)) }
 
-pub told-more : (v : Numbered) (f : MetVariables) (p : ℕ) (ws : List PlaceWord) (n : ℕ) → AreToldFirst v f p ws n → DecidesWord v f p (get_or ws n no_word) true → AreToldFirst v f p ws (n + 1)
+pub told-more : (v : Numbered) (f : MetVariables) (p : ℕ) (ws : List PlaceWord) (n : ℕ) → AreToldFirst v f p ws n → DecidesPlaceAndWord v f p (get_or ws n no_word) true → AreToldFirst v f p ws (n + 1)
 told-more v f p ws n first next = record {
   each = λ k q h b. elim (cases_eq k n) [ inl same ↦ next q (subst (λ m. HasBit (get_or ws m no_word) q) same b) | inr other ↦ first.each k q (omega (arith, h, other)) b ];
 }
 
-pub told-all : (v : Numbered) (f : MetVariables) (p : ℕ) (ws : List PlaceWord) (n : ℕ) → length ws ≤ n → AreToldFirst v f p ws n → DecidesAll v f p ws true
+pub told-all : (v : Numbered) (f : MetVariables) (p : ℕ) (ws : List PlaceWord) (n : ℕ) → length ws ≤ n → AreToldFirst v f p ws n → DecidesPlaceAndWords v f p ws true
 told-all v f p ws n long told = λ q h. (let low = h.there in told.each h.word q (omega (arith, long, low)) h.has)
 
 -- if the variable is disjoint from those of the word that are not recorded, it is disjoint from all of the word
 pub told-word : (v : Numbered) (f : MetVariables) (rows : List RowWord) (p : ℕ) (w : PlaceWord) (known : ℕ) → w.bits < 2 ^ 64 → known < 2 ^ 64 → AreFacts v f rows → ((b : ℕ) → bit_at known b ≡ 1 → HasFact rows p (64 * w.index + b))
-    → DecidesWord v f p (record { index = w.index; bits = bit_and w.bits (bit_not w64 known) }) true → DecidesWord v f p w true
+    → DecidesPlaceAndWord v f p (record { index = w.index; bits = bit_and w.bits (bit_not w64 known) }) true → DecidesPlaceAndWord v f p w true
 told-word v f rows p w known fits other facts recorded asked = λ q h. elim (and-rest w.bits known h.bit fits other h.set) [
   | inl old ↦ rw h.place (facts.each p _ (recorded h.bit old)).disjoint
   | inr rest ↦ asked q (record { bit = h.bit; place = h.place; set = rest })
@@ -107,7 +107,7 @@ found-bits rows p others known fits other recorded none q h = elim (and-rest oth
   | inr rest ↦ absurd (zero-none q (rw none at rest))
 ]
 
-pub found-all : (rows : List RowWord) (bits others rest : ℕ) → rest ≡ 0 → IsTaken (λ b. (q : ℕ) → bit_at others q ≡ 1 → HasFact rows b q) bits rest → (p q : ℕ) → HasBit (near_word bits) p → HasBit (near_word others) q → HasFact rows p q
+pub found-all : (rows : List RowWord) (bits others rest : ℕ) → rest ≡ 0 → IsTaken (λ b. (q : ℕ) → bit_at others q ≡ 1 → HasFact rows b q) bits rest → (p q : ℕ) → HasBit (first_word bits) p → HasBit (first_word others) q → HasFact rows p q
 found-all rows bits others rest none taken p q h k =
     let here = h.place in
     let there = k.place in
@@ -118,30 +118,30 @@ found-all rows bits others rest none taken p q h k =
       | inr found ↦ subst (λ m. HasFact rows m q) one (subst (HasFact rows h.bit) two (found k.bit k.set))
     ]
 
-pub found-none : (rows : List RowWord) (bits others : ℕ) → others ≡ 0 → (p q : ℕ) → HasBit (near_word bits) p → HasBit (near_word others) q → HasFact rows p q
+pub found-none : (rows : List RowWord) (bits others : ℕ) → others ≡ 0 → (p q : ℕ) → HasBit (first_word bits) p → HasBit (first_word others) q → HasFact rows p q
 found-none rows bits others none p q h k = absurd (zero-none k.bit (rw none at k.set))
 
-pub found-tells : (v : Numbered) (f : MetVariables) (rows : List RowWord) (bits before : ℕ) → AreFacts v f rows → ((p q : ℕ) → HasBit (near_word bits) p → HasBit (near_word before) q → HasFact rows p q) → DecidesEach v f (near_word bits ∷ []) (near_word before ∷ []) true
-found-tells v f rows bits before facts found = λ p q h k. (facts.each p q (found p q (word-alone (near_word bits) p h) (word-alone (near_word before) q k))).disjoint
+pub found-tells : (v : Numbered) (f : MetVariables) (rows : List RowWord) (bits before : ℕ) → AreFacts v f rows → ((p q : ℕ) → HasBit (first_word bits) p → HasBit (first_word before) q → HasFact rows p q) → DecidesWordsAndWords v f (first_word bits ∷ []) (first_word before ∷ []) true
+found-tells v f rows bits before facts found = λ p q h k. (facts.each p q (found p q (word-alone (first_word bits) p h) (word-alone (first_word before) q k))).disjoint
 
 -- ---- the places of a word, and of a list of words
 
-pub told-bits : (v : Numbered) (f : MetVariables) (w : PlaceWord) (ws : List PlaceWord) (rest : ℕ) → rest ≡ 0 → IsTaken (λ b. DecidesAll v f (64 * w.index + b) ws true) w.bits rest → DecidesBits v f w ws true
+pub told-bits : (v : Numbered) (f : MetVariables) (w : PlaceWord) (ws : List PlaceWord) (rest : ℕ) → rest ≡ 0 → IsTaken (λ b. DecidesPlaceAndWords v f (64 * w.index + b) ws true) w.bits rest → DecidesWordAndWords v f w ws true
 told-bits v f w ws rest none taken = λ p q h b. elim (taken.done h.bit h.set) [ inl left ↦ absurd (zero-none h.bit (rw none at left)) | inr one ↦ rw h.place (one q b) ]
 
 pub record AreTold (v : Numbered) (f : MetVariables) (words : List PlaceWord) (ws : List PlaceWord) (n : ℕ) : Type 0 where
-  pub each : (p q : ℕ) → HasAmong n words p → HasPlace ws q → are_places_disjoint v f p q ≡ true
+  pub each : (p q : ℕ) → HasPlaceAmong n words p → HasPlace ws q → are_places_disjoint v f p q ≡ true
 
 pub are_told-none : (v : Numbered) (f : MetVariables) (words ws : List PlaceWord) → AreTold v f words ws 0
 are_told-none v f words ws = record { each = λ p q h b. (let low = h.there in absurd (omega (arith, low))) }
 
-pub are_told-more : (v : Numbered) (f : MetVariables) (words ws : List PlaceWord) (n : ℕ) → AreTold v f words ws n → DecidesBits v f (get_or words n no_word) ws true → AreTold v f words ws (n + 1)
+pub are_told-more : (v : Numbered) (f : MetVariables) (words ws : List PlaceWord) (n : ℕ) → AreTold v f words ws n → DecidesWordAndWords v f (get_or words n no_word) ws true → AreTold v f words ws (n + 1)
 are_told-more v f words ws n first next = record { each = λ p q h b. elim (word-more n words p h) [ inl before ↦ first.each p q before b | inr last ↦ next p q last b ] }
 
-pub are_told-all : (v : Numbered) (f : MetVariables) (words ws : List PlaceWord) (n : ℕ) → length words ≤ n → AreTold v f words ws n → DecidesEach v f words ws true
+pub are_told-all : (v : Numbered) (f : MetVariables) (words ws : List PlaceWord) (n : ℕ) → length words ≤ n → AreTold v f words ws n → DecidesWordsAndWords v f words ws true
 are_told-all v f words ws n long told = λ p q h b. told.each p q (let low = h.there in record { word = h.word; there = omega (arith, low, long); has = h.has }) b
 
 -- if the variable is disjoint from those of the word, the facts are still true after the word is recorded
 pub told-facts : (v : Numbered) (f : MetVariables) (old new : List RowWord) (p : ℕ) (w : PlaceWord) → AreFacts v f old → RecordsWord old new p w → p < length f.variables → ((b : ℕ) → bit_at w.bits b ≡ 1 → 64 * w.index + b < length f.variables)
-    → DecidesWord v f p w true → AreFacts v f new
+    → DecidesPlaceAndWord v f p w true → AreFacts v f new
 told-facts v f old new p w facts records row below told = facts-recorded v f old new p w facts records (λ q h. (let place = h.place in let low = below h.bit h.set in record { row = row; place = omega (arith, place, low); disjoint = told q h }))

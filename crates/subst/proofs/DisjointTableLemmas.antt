@@ -1,5 +1,5 @@
 -- The tables of a cache, as images are read and listed.
-use Rattle.subst.proofs.Words.{◌≡◌, ℕ, zero, suc, ◌+◌, ◌-◌, ◌<◌, ◌≤◌, ◌==◌, false, List, [], ◌∷◌, ◌++◌, length, take, take_all, drop, get_or, sym, ap, subst, arith, Numbered, SymbolRange, symbols_in, CodeImages, code_apply, code_image, PlaceWord, MetVariables, ArePlaced, Grows, IsAmong, AreImagesRecorded, RecordedImages, ChangesOnlyList, AddsSymbols, HasPlace, RecordsImage, AreTables, DisjointTables}
+use Rattle.subst.proofs.Words.{◌≡◌, ℕ, zero, suc, ◌+◌, ◌-◌, ◌<◌, ◌≤◌, ◌==◌, false, List, [], ◌∷◌, ◌++◌, length, take, take_all, drop, get_or, sym, ap, subst, arith, Numbered, SymbolRange, symbols_in, CodeImages, code_apply, code_image, PlaceWord, MetVariables, ArePlaced, Grows, IsAmong, AreLongImages, RecordedImages, ChangesOnlyCurrent, AddsSymbols, HasPlace, RecordsLongImage, AreTables, DisjointTables}
 use Rattle.subst.proofs.SymbolRangeLemmas.{length-seen}
 use Rattle.subst.proofs.PlaceSetLemmas.{among-left, among-right, symbols-again}
 use Rattle.subst.proofs.WrittenImages.{apply-take}
@@ -9,12 +9,12 @@ use Rattle.subst.proofs.ImageVariableLemmas.{recorded-over, recorded-begin, reco
 
 pub tables-over : (v w : Numbered) (over more symbols : List ℕ) (t : DisjointTables) → v ≡ w → symbols ≡ over ++ more → AreTables v over t → AreTables w symbols t
 tables-over v w over more symbols t same e h =
-    subst (λ u. AreTables u symbols t) same (subst (λ s. AreTables v s t) (sym e) (record { placed = h.placed; recorded = recorded-over v t.variables over more t.images h.recorded; facts = h.facts; found = pairs-over v over more t.found h.found }))
+    subst (λ u. AreTables u symbols t) same (subst (λ s. AreTables v s t) (sym e) (record { placed = h.placed; recorded = recorded-over v t.variables over more t.images h.recorded; facts = h.facts; image_pairs = pairs-over v over more t.image_pairs h.image_pairs }))
 
 -- the tables after an image is read
-pub tables-read : (v : Numbered) (symbols : List ℕ) (t : DisjointTables) (g : MetVariables) (n : RecordedImages) (before : List PlaceWord) → AreTables v symbols t → ArePlaced v g → Grows t.variables g → AreImagesRecorded v g symbols n
-    → AreTables v symbols (record { variables = g; images = n; rows = t.rows; before = before; found = t.found })
-tables-read v symbols t g n before h placed grows recorded = record { placed = placed; recorded = recorded; facts = facts-grown v t.variables g t.rows grows h.facts; found = h.found }
+pub tables-read : (v : Numbered) (symbols : List ℕ) (t : DisjointTables) (g : MetVariables) (n : RecordedImages) (before : List PlaceWord) → AreTables v symbols t → ArePlaced v g → Grows t.variables g → AreLongImages v g symbols n
+    → AreTables v symbols (record { variables = g; images = n; rows = t.rows; earlier_places = before; image_pairs = t.image_pairs })
+tables-read v symbols t g n before h placed grows recorded = record { placed = placed; recorded = recorded; facts = facts-grown v t.variables g t.rows grows h.facts; image_pairs = h.image_pairs }
 
 -- an expression without its first symbol
 abbrev pub rest_of : List ℕ → List ℕ
@@ -44,25 +44,25 @@ some-range xs rest p x low high e = let size = ap length e in omega (arith, leng
 
 -- the recorded images as a citation begins: only those of long images remain
 abbrev pub begun_of : RecordedImages → RecordedImages
-begun_of n = record { words = take n.kept n.words; list = []; kept = n.kept; read = []; long = n.long }
+begun_of n = record { words = take n.kept_len n.words; current = []; kept_len = n.kept_len; read_images = []; long_images = n.long_images }
 
-module _ (v : Numbered) (symbols : List ℕ) (t : DisjointTables) (g : MetVariables) (tables : AreTables v symbols t) (placed : ArePlaced v g) (grows : Grows t.variables g) (listed : RecordedImages) (keeps : ChangesOnlyList (begun_of t.images) listed) where
-  listed-recorded : AreImagesRecorded v g symbols listed
+module _ (v : Numbered) (symbols : List ℕ) (t : DisjointTables) (g : MetVariables) (tables : AreTables v symbols t) (placed : ArePlaced v g) (grows : Grows t.variables g) (listed : RecordedImages) (keeps : ChangesOnlyCurrent (begun_of t.images) listed) where
+  listed-recorded : AreLongImages v g symbols listed
   listed-recorded = recorded-most v t.variables g symbols (begun_of t.images) listed grows (rest-most (begun_of t.images) listed keeps) (recorded-begin v t.variables symbols t.images tables.recorded)
 
   -- the tables after the places of an image are listed
-  pub tables-listed : AreTables v symbols (record { variables = g; images = listed; rows = t.rows; before = t.before; found = t.found })
-  tables-listed = record { placed = placed; recorded = listed-recorded; facts = facts-grown v t.variables g t.rows grows tables.facts; found = tables.found }
+  pub tables-listed : AreTables v symbols (record { variables = g; images = listed; rows = t.rows; earlier_places = t.earlier_places; image_pairs = t.image_pairs })
+  tables-listed = record { placed = placed; recorded = listed-recorded; facts = facts-grown v t.variables g t.rows grows tables.facts; image_pairs = tables.image_pairs }
 
 -- the list is recorded for a range without its first symbol
 pub tables-recorded : (v : Numbered) (symbols : List ℕ) (t : DisjointTables) (new : RecordedImages) (range image : SymbolRange) (x : ℕ) (rest : List ℕ) → AreTables v symbols t
-    → AddsSymbols v t.variables (HasPlace []) (HasPlace t.images.list) (length rest) rest → RecordsImage t.images new image → range.start ≤ range.end → range.end ≤ length symbols → image.start ≡ range.start + 1 → image.end ≡ range.end → symbols_in symbols range ≡ x ∷ rest
-    → AreTables v symbols (record { variables = t.variables; images = new; rows = t.rows; before = t.before; found = t.found })
+    → AddsSymbols v t.variables (HasPlace []) (HasPlace t.images.current) (length rest) rest → RecordsLongImage t.images new image → range.start ≤ range.end → range.end ≤ length symbols → image.start ≡ range.start + 1 → image.end ≡ range.end → symbols_in symbols range ≡ x ∷ rest
+    → AreTables v symbols (record { variables = t.variables; images = new; rows = t.rows; earlier_places = t.earlier_places; image_pairs = t.image_pairs })
 tables-recorded v symbols t new range image x rest tables adds records start end low_is high_is seen =
     let some = some-range symbols rest range x start end seen in
     let without_first = seen-without_first symbols rest range image x some low_is high_is seen in record {
       placed = tables.placed;
       recorded = recorded-long v t.variables symbols t.images new image records (omega (arith, low_is, high_is, some)) (omega (arith, high_is, end)) (rw without_first adds) tables.recorded;
       facts = tables.facts;
-      found = tables.found;
+      image_pairs = tables.image_pairs;
     }

@@ -1,5 +1,5 @@
 -- The images of the numbers of a group, each tested against the earlier ones.
-use Rattle.subst.proofs.Words.{◌≡◌, ℕ, zero, suc, ◌+◌, ◌<◌, ◌≤◌, Bool, true, false, not, ◌||◌, ◌&&◌, ◌==◌, List, [], ◌∷◌, length, map, take, drop, get_or, slice_get, slice_range, Some, refl, list_all, list_any, position_or_len, sym, ◌∙◌, ap, subst, arith, inl, inr, true≢false, lt-ltb, and_from, and_parts, or_right, cases_eq, or_cases, or_left, cases_Bool, false_from_ne_true, list_all-map, list_all_at, list_all_more, list_any_at, get_or-take, get_or_default, length-take, take_all, eqb-true, last_part, Name, name_eq, has_name, Expr, Database, name_at, decode, AreDistinct, name_same, same_name, name_eq-comm, is_pair, active_disjoint_lists, Numbered, CodeImages, code_image, image, images_of_names, are_disjoint, is_group_disjoint, are_groups_disjoint, AreBelow, AllBelow, image_named, are_two_disjoint, is_number_disjoint, are_numbers_disjoint, pair_at, disjoint-from, MetVariables, ArePlaced, ArePlacesOf, HasVariable, IsAmong, HasPlace, PlaceWord, WordRange, IsIn, IsRangeOf, AddsWords, DecidesEach, get_or_from_slice_get, slice_get-get_or, slice_get_within, Any-from_list_any, and_comm}
+use Rattle.subst.proofs.Words.{◌≡◌, ℕ, zero, suc, ◌+◌, ◌<◌, ◌≤◌, Bool, true, false, not, ◌||◌, ◌&&◌, ◌==◌, List, [], ◌∷◌, length, map, take, drop, get_or, slice_get, slice_range, Some, refl, list_all, list_any, position_or_len, sym, ◌∙◌, ap, subst, arith, inl, inr, true≢false, lt-ltb, and_from, and_parts, or_right, cases_eq, or_cases, or_left, cases_Bool, false_from_ne_true, list_all-map, list_all_at, list_all_more, list_any_at, get_or-take, get_or_default, length-take, take_all, eqb-true, last_part, Name, name_eq, has_name, Expr, Database, name_at, decode, AreDistinct, name_same, same_name, name_eq-comm, is_pair, active_disjoint_lists, Numbered, CodeImages, code_image, image, images_of_names, are_disjoint, is_group_disjoint, are_groups_disjoint, AreBelow, AllBelow, image_named, are_two_disjoint, is_number_disjoint, are_numbers_disjoint, pair_at, disjoint-from, MetVariables, ArePlaced, ArePlacesOf, HasVariable, IsAmong, HasPlace, PlaceWord, WordRange, RangeHasPlace, IsWordRangeOf, AddsWords, DecidesWordsAndWords, get_or_from_slice_get, slice_get-get_or, slice_get_within, Any-from_list_any, and_comm}
 use Rattle.subst.proofs.BitsLemmas.{differ}
 use Rattle.subst.proofs.VariablePlaceLemmas.{grows-own, has-more, places-same, at-variable}
 use Rattle.subst.proofs.ImageVariableLemmas.{in-listed, listed-in}
@@ -122,11 +122,11 @@ module _ (D : Database) (image_of : ℕ → Expr) (xs : List ℕ) (k n : ℕ) wh
   held-all long front = ap (λ ys. is_number_disjoint D image_of ys k) (sym (take_all n xs long)) ∙ front
 
 -- two images, by the words of the places of their variables
-module _ (v : Numbered) (f : MetVariables) (placed : ArePlaced v f) (xs ys : List ℕ) (words : List PlaceWord) (r s : WordRange) (own : IsRangeOf v f words r xs) (other : IsRangeOf v f words s ys) where
-  listed-places : (zs : List ℕ) (t : WordRange) → IsRangeOf v f words t zs → ArePlacesOf v f (HasPlace (slice_range words t.start t.end)) (IsAmong (length zs) zs)
-  listed-places zs t is = places-same v f f (IsIn words t) (HasPlace (slice_range words t.start t.end)) _ (grows-own f) (λ j. in-listed words t j is.low is.high) (λ j. listed-in words t j is.low is.high) is.are
+module _ (v : Numbered) (f : MetVariables) (placed : ArePlaced v f) (xs ys : List ℕ) (words : List PlaceWord) (r s : WordRange) (own : IsWordRangeOf v f words r xs) (other : IsWordRangeOf v f words s ys) where
+  listed-places : (zs : List ℕ) (t : WordRange) → IsWordRangeOf v f words t zs → ArePlacesOf v f (HasPlace (slice_range words t.start t.end)) (IsAmong (length zs) zs)
+  listed-places zs t is = places-same v f f (RangeHasPlace words t) (HasPlace (slice_range words t.start t.end)) _ (grows-own f) (λ j. in-listed words t j is.low is.high) (λ j. listed-in words t j is.low is.high) is.are
 
-  pub two-told : (b : Bool) → DecidesEach v f (slice_range words r.start r.end) (slice_range words s.start s.end) b → b ≡ are_disjoint v.statements (decode v.names xs) (decode v.names ys)
+  pub two-told : (b : Bool) → DecidesWordsAndWords v f (slice_range words r.start r.end) (slice_range words s.start s.end) b → b ≡ are_disjoint v.statements (decode v.names xs) (decode v.names ys)
   two-told true told = sym (disjoint-from_good v xs ys (λ x y p q. good x y ((listed-places xs r own).each x p) ((listed-places ys s other).each y q)))
     where
       good : (x y : ℕ) → HasVariable v f (HasPlace (slice_range words r.start r.end)) x → HasVariable v f (HasPlace (slice_range words s.start s.end)) y → is_good v x y ≡ true
@@ -146,7 +146,7 @@ abbrev pub IsInImages : CodeImages → List ℕ → ℕ → ℕ → Type 0
 IsInImages σ group n x = (a : ℕ) × (a < n) × IsAmong (length (code_image σ (get_or group a 0))) (code_image σ (get_or group a 0)) x
 
 module _ (v : Numbered) (f : MetVariables) (placed : ArePlaced v f) (σ : CodeImages) (group : List ℕ) (n : ℕ) (words : List PlaceWord) (r : WordRange) (set : List PlaceWord)
-    (first : ArePlacesOf v f (HasPlace set) (IsInImages σ group n)) (own : IsRangeOf v f words r (code_image σ (get_or group n 0))) where
+    (first : ArePlacesOf v f (HasPlace set) (IsInImages σ group n)) (own : IsWordRangeOf v f words r (code_image σ (get_or group n 0))) where
   abbrev image_at : ℕ → List ℕ
   image_at a = code_image σ (get_or group a 0)
 
@@ -155,7 +155,7 @@ module _ (v : Numbered) (f : MetVariables) (placed : ArePlaced v f) (σ : CodeIm
 
   -- the list of words has the places of the variables of the next image
   own-listed : ArePlacesOf v f (HasPlace listed) (IsAmong (length (image_at n)) (image_at n))
-  own-listed = places-same v f f (IsIn words r) (HasPlace listed) _ (grows-own f) (λ j. in-listed words r j own.low own.high) (λ j. listed-in words r j own.low own.high) own.are
+  own-listed = places-same v f f (RangeHasPlace words r) (HasPlace listed) _ (grows-own f) (λ j. in-listed words r j own.low own.high) (λ j. listed-in words r j own.low own.high) own.are
 
   pub images-more : (new : List PlaceWord) → AddsWords set new listed → ArePlacesOf v f (HasPlace new) (IsInImages σ group (n + 1))
   images-more new adds = record {
@@ -170,7 +170,7 @@ module _ (v : Numbered) (f : MetVariables) (placed : ArePlaced v f) (σ : CodeIm
   }
 
   -- each earlier image is disjoint from the next one
-  pub next-disjoint : DecidesEach v f listed set true → (a : ℕ) → a < n → are_two_disjoint v.statements (image_named v.names σ) (get_or group a 0) (get_or group n 0) ≡ true
+  pub next-disjoint : DecidesWordsAndWords v f listed set true → (a : ℕ) → a < n → are_two_disjoint v.statements (image_named v.names σ) (get_or group a 0) (get_or group n 0) ≡ true
   next-disjoint told a h =
       or_right (get_or group a 0 == get_or group n 0) _
       (disjoint-from_good v (image_at a) (image_at n) (λ x y p q. good x y (first.each x (a, h, p)) (own-listed.each y q)))
@@ -181,7 +181,7 @@ module _ (v : Numbered) (f : MetVariables) (placed : ArePlaced v f) (σ : CodeIm
       good x y (inr one) (inr two) = or_right _ _ (pair-swap v.statements (name_at v.names x) (name_at v.names y) ∙ (sym (at-names v f two.0 one.0 y x two.1 one.1) ∙ told two.0 one.0 two.2 one.2))
 
   -- one of the earlier images is not disjoint from the next one
-  pub next-clash : DecidesEach v f listed set false → (a : ℕ) × (a < n) × (are_disjoint v.statements (image_named v.names σ (get_or group a 0)) (image_named v.names σ (get_or group n 0)) ≡ false)
+  pub next-clash : DecidesWordsAndWords v f listed set false → (a : ℕ) × (a < n) × (are_disjoint v.statements (image_named v.names σ (get_or group a 0)) (image_named v.names σ (get_or group n 0)) ≡ false)
   next-clash told =
       let p = told.0 in
       let q = told.1 in

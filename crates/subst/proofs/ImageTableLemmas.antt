@@ -1,5 +1,5 @@
 -- The image of a symbol in the tables of images.
-use Rattle.subst.proofs.Words.{◌≡◌, ℕ, zero, suc, ◌+◌, ◌<◌, ◌≤◌, ◌==◌, true, false, cond, nat_eq, List, [], ◌∷◌, ◌++◌, length, get_or, replicate, slice_set, Option, Some, None, refl, lookup, sym, ◌∙◌, ap, arith, inl, inr, cases_Bool, SymbolRange, placed, AreUpTo, nat_tests}
+use Rattle.subst.proofs.Words.{◌≡◌, ℕ, zero, suc, ◌+◌, ◌<◌, ◌≤◌, ◌==◌, true, false, cond, nat_eq, List, [], ◌∷◌, ◌++◌, length, get_or, replicate, slice_set, Option, Some, None, refl, lookup, sym, ◌∙◌, ap, arith, inl, inr, cases_Bool, SymbolRange, images_in_round, AreUpTo, nat_tests}
 
 abbrev pub image_in : ℕ → List ℕ → List SymbolRange → ℕ → Option SymbolRange
 image_in round [] places x = None
@@ -8,16 +8,16 @@ image_in round (r ∷ rounds) (p ∷ places) zero = cond (r == round) (Some p) N
 image_in round (r ∷ rounds) (p ∷ places) (suc x) = image_in round rounds places x
 
 -- tables of the symbols from k on have no image of an earlier symbol
-before : (round k : ℕ) (rounds : List ℕ) (places : List SymbolRange) (x : ℕ) → x < k → lookup (nat_eq x) (placed round k rounds places) ≡ None
+before : (round k : ℕ) (rounds : List ℕ) (places : List SymbolRange) (x : ℕ) → x < k → lookup (nat_eq x) (images_in_round round k rounds places) ≡ None
 before round k [] places x h = refl
 before round k (r ∷ rounds) [] x h = refl
 before round k (r ∷ rounds) (p ∷ places) x h =
     let other : nat_eq x k ≡ false = grind (arith, nat_tests, h) in
-    let rest : lookup (nat_eq x) (placed round (suc k) rounds places) ≡ None = before round (suc k) rounds places x (omega (arith, h)) in
+    let rest : lookup (nat_eq x) (images_in_round round (suc k) rounds places) ≡ None = before round (suc k) rounds places x (omega (arith, h)) in
     elim (cases_Bool (r == round)) [ inl e ↦ rw (e, other) rest | inr e ↦ rw e rest ]
 
 -- tables of the symbols from k on have for k + x the image at x
-from : (round k : ℕ) (rounds : List ℕ) (places : List SymbolRange) (x : ℕ) → lookup (nat_eq (k + x)) (placed round k rounds places) ≡ image_in round rounds places x
+from : (round k : ℕ) (rounds : List ℕ) (places : List SymbolRange) (x : ℕ) → lookup (nat_eq (k + x)) (images_in_round round k rounds places) ≡ image_in round rounds places x
 from round k [] places x = refl
 from round k (r ∷ rounds) [] x = refl
 from round k (r ∷ rounds) (p ∷ places) zero =
@@ -26,11 +26,11 @@ from round k (r ∷ rounds) (p ∷ places) zero =
 from round k (r ∷ rounds) (p ∷ places) (suc x) =
     let other : nat_eq (k + suc x) k ≡ false = grind (arith, nat_tests) in
     let next : k + suc x ≡ suc k + x = omega arith in
-    let rest : lookup (nat_eq (k + suc x)) (placed round (suc k) rounds places) ≡ image_in round rounds places x = rw next (from round (suc k) rounds places x) in
+    let rest : lookup (nat_eq (k + suc x)) (images_in_round round (suc k) rounds places) ≡ image_in round rounds places x = rw next (from round (suc k) rounds places x) in
     elim (cases_Bool (r == round)) [ inl e ↦ rw (e, other) rest | inr e ↦ rw e rest ]
 
-pub placed-image : (round : ℕ) (rounds : List ℕ) (places : List SymbolRange) (x : ℕ) → lookup (nat_eq x) (placed round 0 rounds places) ≡ image_in round rounds places x
-placed-image round rounds places x = let e : x ≡ 0 + x = omega arith in ap (λ n. lookup (nat_eq n) (placed round 0 rounds places)) e ∙ from round 0 rounds places x
+pub placed-image : (round : ℕ) (rounds : List ℕ) (places : List SymbolRange) (x : ℕ) → lookup (nat_eq x) (images_in_round round 0 rounds places) ≡ image_in round rounds places x
+placed-image round rounds places x = let e : x ≡ 0 + x = omega arith in ap (λ n. lookup (nat_eq n) (images_in_round round 0 rounds places)) e ∙ from round 0 rounds places x
 
 -- a symbol past the end of the tables has no image
 pub image-none : (round : ℕ) (rounds : List ℕ) (places : List SymbolRange) (x : ℕ) → length rounds ≤ x → image_in round rounds places x ≡ None
@@ -47,7 +47,7 @@ image-at round (s ∷ rounds) (q ∷ places) zero r p h l = refl
 image-at round (s ∷ rounds) (q ∷ places) (suc x) r p h l = image-at round rounds places x r p (omega (arith, h)) (omega (arith, l))
 
 -- no image was set in a later round
-pub placed-later : (round later k : ℕ) (rounds : List ℕ) (places : List SymbolRange) → AreUpTo round rounds → round < later → placed later k rounds places ≡ []
+pub placed-later : (round later k : ℕ) (rounds : List ℕ) (places : List SymbolRange) → AreUpTo round rounds → round < later → images_in_round later k rounds places ≡ []
 placed-later round later k [] places u h = refl
 placed-later round later k (r ∷ rounds) [] u h = refl
 placed-later round later k (r ∷ rounds) (p ∷ places) u h =
@@ -61,7 +61,7 @@ up_to-later round later (r ∷ rounds) u h = (let low = u.0 in omega (arith, low
 
 -- ---- longer tables
 
-placed-none : (round k m : ℕ) (places : List SymbolRange) → 1 ≤ round → placed round k (replicate m 0) places ≡ []
+placed-none : (round k m : ℕ) (places : List SymbolRange) → 1 ≤ round → images_in_round round k (replicate m 0) places ≡ []
 placed-none round k zero places h = refl
 placed-none round k (suc m) [] h = refl
 placed-none round k (suc m) (p ∷ places) h =
@@ -69,13 +69,13 @@ placed-none round k (suc m) (p ∷ places) h =
     rw other (placed-none round (suc k) m places h)
 
 pub placed-more : (round k : ℕ) (rounds : List ℕ) (places more : List SymbolRange) (m : ℕ) → 1 ≤ round → length rounds ≤ length places
-    → placed round k (rounds ++ replicate m 0) (places ++ more) ≡ placed round k rounds places
+    → images_in_round round k (rounds ++ replicate m 0) (places ++ more) ≡ images_in_round round k rounds places
 placed-more round k [] places more m h l = placed-none round k m (places ++ more) h
 placed-more round k (r ∷ rounds) [] more m h l = absurd (omega (arith, l))
 placed-more round k (r ∷ rounds) (p ∷ places) more m h l = rw (placed-more round (suc k) rounds places more m h (omega (arith, l))) refl
 
 -- ranges past the end of the rounds do not count
-pub placed-ranges : (round k : ℕ) (rounds : List ℕ) (places more : List SymbolRange) → length rounds ≤ length places → placed round k rounds (places ++ more) ≡ placed round k rounds places
+pub placed-ranges : (round k : ℕ) (rounds : List ℕ) (places more : List SymbolRange) → length rounds ≤ length places → images_in_round round k rounds (places ++ more) ≡ images_in_round round k rounds places
 placed-ranges round k [] places more l = refl
 placed-ranges round k (r ∷ rounds) [] more l = absurd (omega (arith, l))
 placed-ranges round k (r ∷ rounds) (p ∷ places) more l = rw (placed-ranges round (suc k) rounds places more (omega (arith, l))) refl

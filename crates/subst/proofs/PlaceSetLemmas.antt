@@ -1,5 +1,5 @@
 -- MetVariables as words of bits.
-use Rattle.subst.proofs.Words.{◌≡◌, ℕ, ◌+◌, ◌-◌, ◌*◌, ◌%◌, ◌^◌, ◌<◌, ◌⊎◌, false, List, [], ◌∷◌, ◌++◌, length, get_or, slice_set, refl, bit_at, bit_or, sym, ◌∙◌, ap, subst, arith, inl, inr, cases_eq, cases_lt, get_or_append_left, get_or_push, get_or-set_same, get_or-set_other, length-set, length_push, length-append, get_or-append_right, get_or-append-add, Numbered, is_variable, name_at, PlaceWord, near_word, HasBit, HasAmong, HasPlace, HasEither, no_word, AddsFirst, AddsWord, AddsWords, TakesPlace, AddsSymbols, MetVariables, IsAt, Grows, IsAmong}
+use Rattle.subst.proofs.Words.{◌≡◌, ℕ, ◌+◌, ◌-◌, ◌*◌, ◌%◌, ◌^◌, ◌<◌, ◌⊎◌, false, List, [], ◌∷◌, ◌++◌, length, get_or, slice_set, refl, bit_at, bit_or, sym, ◌∙◌, ap, subst, arith, inl, inr, cases_eq, cases_lt, get_or_append_left, get_or_push, get_or-set_same, get_or-set_other, length-set, length_push, length-append, get_or-append_right, get_or-append-add, Numbered, is_variable, name_at, PlaceWord, first_word, HasBit, HasPlaceAmong, HasPlace, HasEither, no_word, AddsFirst, AddsWord, AddsWords, AddsPlaceToWord, AddsSymbols, MetVariables, IsAt, Grows, IsAmong}
 use Rattle.subst.proofs.BitsLemmas.{one-own, one-only, or-left, or-right, or-either, zero-none}
 use Rattle.subst.proofs.VariablePlaceLemmas.{grows-own, has-more, among-none, among-more, among-before, among-last}
 
@@ -71,7 +71,7 @@ adds-set ws i bits w there same_index same_bits =
 
 -- ---- a place is added, to the set or to the word at hand
 
-pub takes-here : (ws : List PlaceWord) (w : PlaceWord) (place index k : ℕ) → k < 64 → place ≡ 64 * index + k → w.index ≡ index → TakesPlace ws w ws (record { index = index; bits = bit_or w.bits (1 * 2 ^ k % 2 ^ 64) }) place
+pub takes-here : (ws : List PlaceWord) (w : PlaceWord) (place index k : ℕ) → k < 64 → place ≡ 64 * index + k → w.index ≡ index → AddsPlaceToWord ws w ws (record { index = index; bits = bit_or w.bits (1 * 2 ^ k % 2 ^ 64) }) place
 takes-here ws w place index k low e same = record {
   before = λ j h. elim h [ inl p ↦ inl p | inr b ↦ inr (record { bit = b.bit; place = b.place ∙ ap (λ m. 64 * m + b.bit) same; set = or-left w.bits (1 * 2 ^ k % 2 ^ 64) b.bit b.set }) ];
   added = inr (record { bit = k; place = e; set = or-right w.bits (1 * 2 ^ k % 2 ^ 64) k (one-own k low) });
@@ -84,7 +84,7 @@ takes-here ws w place index k low e same = record {
   ];
 }
 
-pub takes-next : (old new : List PlaceWord) (w : PlaceWord) (place index k : ℕ) → k < 64 → place ≡ 64 * index + k → AddsWord old new w → TakesPlace old w new (record { index = index; bits = 1 * 2 ^ k % 2 ^ 64 }) place
+pub takes-next : (old new : List PlaceWord) (w : PlaceWord) (place index k : ℕ) → k < 64 → place ≡ 64 * index + k → AddsWord old new w → AddsPlaceToWord old w new (record { index = index; bits = 1 * 2 ^ k % 2 ^ 64 }) place
 takes-next old new w place index k low e adds = record {
   before = λ j h. elim h [ inl p ↦ inl (adds.before j p) | inr b ↦ inl (adds.added j b) ];
   added = inr (one-has place index k low e);
@@ -94,16 +94,16 @@ takes-next old new w place index k low e adds = record {
 -- ---- a list of words
 
 -- a place of the first n + 1 words is one of the first n, or of the last
-pub word-more : (n : ℕ) (ws : List PlaceWord) (j : ℕ) → HasAmong (n + 1) ws j → HasAmong n ws j ⊎ HasBit (get_or ws n no_word) j
+pub word-more : (n : ℕ) (ws : List PlaceWord) (j : ℕ) → HasPlaceAmong (n + 1) ws j → HasPlaceAmong n ws j ⊎ HasBit (get_or ws n no_word) j
 word-more n ws j h = let there = h.there in elim (cases_eq h.word n) [
   | inl same ↦ inr (subst (λ m. HasBit (get_or ws m no_word) j) same h.has)
   | inr other ↦ inl (record { word = h.word; there = omega (arith, there, other); has = h.has })
 ]
 
-pub word-before : (n : ℕ) (ws : List PlaceWord) (j : ℕ) → HasAmong n ws j → HasAmong (n + 1) ws j
+pub word-before : (n : ℕ) (ws : List PlaceWord) (j : ℕ) → HasPlaceAmong n ws j → HasPlaceAmong (n + 1) ws j
 word-before n ws j h = let there = h.there in record { word = h.word; there = omega (arith, there); has = h.has }
 
-pub word-last : (n : ℕ) (ws : List PlaceWord) (j : ℕ) → HasBit (get_or ws n no_word) j → HasAmong (n + 1) ws j
+pub word-last : (n : ℕ) (ws : List PlaceWord) (j : ℕ) → HasBit (get_or ws n no_word) j → HasPlaceAmong (n + 1) ws j
 word-last n ws j h = record { word = n; there = omega arith; has = h }
 
 pub adds-none : (ws words : List PlaceWord) → AddsFirst ws ws 0 words
@@ -124,13 +124,13 @@ adds-more old ws new n words first next = record {
 pub word-alone : (w : PlaceWord) (j : ℕ) → HasPlace (w ∷ []) j → HasBit w j
 word-alone w j h = elim (word-more 0 (w ∷ []) j h) [ inl none ↦ let low = none.there in absurd (omega (arith, low)) | inr own ↦ own ]
 
-pub near-none : (j : ℕ) → HasPlace (near_word 0 ∷ []) j → ⊥
-near-none j h = let own = word-alone (near_word 0) j h in zero-none own.bit own.set
+pub near-none : (j : ℕ) → HasPlace (first_word 0 ∷ []) j → ⊥
+near-none j h = let own = word-alone (first_word 0) j h in zero-none own.bit own.set
 
-pub adds-near : (before bits : ℕ) → AddsWords (near_word before ∷ []) (near_word (bit_or before bits) ∷ []) (near_word bits ∷ [])
+pub adds-near : (before bits : ℕ) → AddsWords (first_word before ∷ []) (first_word (bit_or before bits) ∷ []) (first_word bits ∷ [])
 adds-near before bits =
-    let ws : List PlaceWord = near_word before ∷ [] in
-    adds-more ws ws (near_word (bit_or before bits) ∷ []) 0 (near_word bits ∷ []) (adds-none ws (near_word bits ∷ [])) (adds-set ws 0 before (near_word bits) (omega arith) refl refl)
+    let ws : List PlaceWord = first_word before ∷ [] in
+    adds-more ws ws (first_word (bit_or before bits) ∷ []) 0 (first_word bits ∷ []) (adds-none ws (first_word bits ∷ [])) (adds-set ws 0 before (first_word bits) (omega arith) refl refl)
 
 -- ---- symbols
 
@@ -165,7 +165,7 @@ symbols-constant v f g Old Now n image grows none h = record {
   only = λ j b. elim (h.only j b) [ inl first ↦ inl first | inr own ↦ inr (own.0, among-before n image own.0 own.1, grows.each j own.0 own.2) ];
 }
 
-pub symbols-variable : (v : Numbered) (f g : MetVariables) (Old : ℕ → Type 0) (ws new : List PlaceWord) (w next : PlaceWord) (n place : ℕ) (image : List ℕ) → Grows f g → IsAt g place (get_or image n 0) → TakesPlace ws w new next place
+pub symbols-variable : (v : Numbered) (f g : MetVariables) (Old : ℕ → Type 0) (ws new : List PlaceWord) (w next : PlaceWord) (n place : ℕ) (image : List ℕ) → Grows f g → IsAt g place (get_or image n 0) → AddsPlaceToWord ws w new next place
     → AddsSymbols v f Old (HasEither ws w) n image → AddsSymbols v g Old (HasEither new next) (n + 1) image
 symbols-variable v f g Old ws new w next n place image grows at takes h = record {
   before = λ j p. takes.before j (h.before j p);
@@ -181,13 +181,13 @@ symbols-variable v f g Old ws new w next n place image grows at takes h = record
 
 -- a variable at a place below 64 is added
 pub symbols-near : (v : Numbered) (f g : MetVariables) (bits n place : ℕ) (image : List ℕ) → Grows f g → place < 64 → IsAt g place (get_or image n 0)
-    → AddsSymbols v f (HasPlace []) (HasEither [] (near_word bits)) n image → AddsSymbols v g (HasPlace []) (HasEither [] (near_word (bit_or bits (1 * 2 ^ place % 2 ^ 64)))) (n + 1) image
+    → AddsSymbols v f (HasPlace []) (HasEither [] (first_word bits)) n image → AddsSymbols v g (HasPlace []) (HasEither [] (first_word (bit_or bits (1 * 2 ^ place % 2 ^ 64)))) (n + 1) image
 symbols-near v f g bits n place image grows low at h =
-    symbols-variable v f g (HasPlace []) [] [] (near_word bits) (near_word (bit_or bits (1 * 2 ^ place % 2 ^ 64))) n place image grows at (takes-here [] (near_word bits) place 0 place low (omega arith) refl) h
+    symbols-variable v f g (HasPlace []) [] [] (first_word bits) (first_word (bit_or bits (1 * 2 ^ place % 2 ^ 64))) n place image grows at (takes-here [] (first_word bits) place 0 place low (omega arith) refl) h
 
-pub symbols-near_end : (v : Numbered) (f : MetVariables) (bits n : ℕ) (image : List ℕ) → n ≡ length image → AddsSymbols v f (HasPlace []) (HasEither [] (near_word bits)) n image → AddsSymbols v f (HasPlace []) (HasPlace (near_word bits ∷ [])) (length image) image
+pub symbols-near_end : (v : Numbered) (f : MetVariables) (bits n : ℕ) (image : List ℕ) → n ≡ length image → AddsSymbols v f (HasPlace []) (HasEither [] (first_word bits)) n image → AddsSymbols v f (HasPlace []) (HasPlace (first_word bits ∷ [])) (length image) image
 symbols-near_end v f bits n image end h =
-    subst (λ m. AddsSymbols v f (HasPlace []) (HasPlace (near_word bits ∷ [])) m image) end (symbols-end v f (HasPlace []) [] (near_word bits ∷ []) (near_word bits) n image (adds-pushed [] (near_word bits)) h)
+    subst (λ m. AddsSymbols v f (HasPlace []) (HasPlace (first_word bits ∷ [])) m image) end (symbols-end v f (HasPlace []) [] (first_word bits ∷ []) (first_word bits) n image (adds-pushed [] (first_word bits)) h)
 
 -- ---- images one after another
 

@@ -1,5 +1,5 @@
 -- An expression without the symbols whose images are empty has the same result.
-use Rattle.subst.proofs.Words.{append-nil, ◌≡◌, ℕ, zero, suc, ◌+◌, ◌-◌, ◌<◌, ◌≤◌, Bool, true, false, true≢false, inl, inr, cond, nat_eq, List, [], ◌∷◌, ◌++◌, length, take, take_all, drop, slice_get, Option, Some, None, refl, lookup, sym, ◌∙◌, ap, subst, arith, code_image, code_apply, SymbolRange, images_at, ⊎_elim, get_or, cases_lt, ltb-false, Contains, cons_option, filter, filter_map, flat_map, All-contains, Contains-append_cases, Contains-append_left, Contains-append_right, filter_map-append, flat_map_more, take_more, get_or_from_slice_get, slice_get-get_or, slice_get_within, IsGroupOf, AreGroupsFrom, IsGrouped, AreAbove, Ascends, In, ListsExactly, contains-in, in-contains, has_nonempty_image, is_range_nonempty, is_symbol_left, is_group_left, group_left, remaining}
+use Rattle.subst.proofs.Words.{append-nil, ◌≡◌, ℕ, zero, suc, ◌+◌, ◌-◌, ◌<◌, ◌≤◌, Bool, true, false, true≢false, inl, inr, cond, nat_eq, List, [], ◌∷◌, ◌++◌, length, take, take_all, drop, slice_get, Option, Some, None, refl, lookup, sym, ◌∙◌, ap, subst, arith, code_image, code_apply, SymbolRange, images_at, ⊎_elim, get_or, cases_lt, ltb-false, Contains, cons_option, filter, filter_map, flat_map, All-contains, Contains-append_cases, Contains-append_left, Contains-append_right, filter_map-append, flat_map_more, take_more, get_or_from_slice_get, slice_get-get_or, slice_get_within, IsGroupOf, AreGroupsFrom, IsGrouped, AreAbove, Ascends, In, ListsExactly, contains-in, in-contains, has_nonempty_image, is_range_nonempty, is_symbol_remaining, is_group_remaining, remaining_group, remaining}
 use Rattle.entries.specs.SymbolPlaces.{ArePlacesOf, SymbolGroups}
 use Rattle.entries.proofs.SymbolPlacesLemmas.{group-at, groups-count}
 use Rattle.subst.proofs.ImageRangesLemmas.{image-some}
@@ -44,32 +44,32 @@ apply-remaining symbols ps e = apply-kept (images_at symbols ps) (has_nonempty_i
 -- ---- the groups of the symbols that are left
 
 -- a group is left exactly if the image of its symbol is not empty
-group-left : (ps : List (ℕ × SymbolRange)) (e : List ℕ) (s : ℕ) (g : List ℕ) → IsGroupOf e s g → is_group_left ps e g ≡ has_nonempty_image ps s
+group-left : (ps : List (ℕ × SymbolRange)) (e : List ℕ) (s : ℕ) (g : List ℕ) → IsGroupOf e s g → is_group_remaining ps e g ≡ has_nonempty_image ps s
 group-left ps e s [] h = absurd (let some = h.some in omega (arith, some))
-group-left ps e s (i ∷ g) h = ap (is_symbol_left ps) (h.only 0 i (omega arith))
+group-left ps e s (i ∷ g) h = ap (is_symbol_remaining ps) (h.only 0 i (omega arith))
 
 -- each index collected is that of a symbol that is left
-collected-only : (ps : List (ℕ × SymbolRange)) (e ss : List ℕ) (gs : List (List ℕ)) (low : ℕ) → AreGroupsFrom e low ss gs → (i : ℕ) → Contains (flat_map (group_left ps e) gs) i → (x : ℕ) × (slice_get e i ≡ Some x) × (has_nonempty_image ps x ≡ true)
+collected-only : (ps : List (ℕ × SymbolRange)) (e ss : List ℕ) (gs : List (List ℕ)) (low : ℕ) → AreGroupsFrom e low ss gs → (i : ℕ) → Contains (flat_map (remaining_group ps e) gs) i → (x : ℕ) × (slice_get e i ≡ Some x) × (has_nonempty_image ps x ≡ true)
 collected-only ps e [] [] low h i c = absurd (let l = c.1 in omega (arith, l))
 collected-only ps e (s ∷ ss) [] low h i c = absurd h
 collected-only ps e [] (g ∷ gs) low h i c = absurd h
 collected-only ps e (s ∷ ss) (g ∷ gs) low h i c =
-    ⊎_elim (λ here. by (is_group_left ps e g) (group-left ps e s g h.1) here) (λ there. collected-only ps e ss gs (suc s) h.2 i there) (Contains-append_cases (group_left ps e g) (flat_map (group_left ps e) gs) i c)
+    ⊎_elim (λ here. by (is_group_remaining ps e g) (group-left ps e s g h.1) here) (λ there. collected-only ps e ss gs (suc s) h.2 i there) (Contains-append_cases (remaining_group ps e g) (flat_map (remaining_group ps e) gs) i c)
   where
     by : (b : Bool) → b ≡ has_nonempty_image ps s → Contains (cond b g []) i → (x : ℕ) × (slice_get e i ≡ Some x) × (has_nonempty_image ps x ≡ true)
     by true l here = (s, All-contains (λ k. slice_get e k ≡ Some s) g i h.1.only here, sym l)
     by false l here = absurd (let n = here.1 in omega (arith, n))
 
 -- each index of a symbol that is left is collected
-collected-all : (ps : List (ℕ × SymbolRange)) (e ss : List ℕ) (gs : List (List ℕ)) (low : ℕ) → AreGroupsFrom e low ss gs → (i x : ℕ) → slice_get e i ≡ Some x → has_nonempty_image ps x ≡ true → IsGrouped i gs → Contains (flat_map (group_left ps e) gs) i
+collected-all : (ps : List (ℕ × SymbolRange)) (e ss : List ℕ) (gs : List (List ℕ)) (low : ℕ) → AreGroupsFrom e low ss gs → (i x : ℕ) → slice_get e i ≡ Some x → has_nonempty_image ps x ≡ true → IsGrouped i gs → Contains (flat_map (remaining_group ps e) gs) i
 collected-all ps e ss [] low h i x at left in_one = absurd in_one
 collected-all ps e [] (g ∷ gs) low h i x at left in_one = absurd h
-collected-all ps e (s ∷ ss) (g ∷ gs) low h i x at left (inr there) = Contains-append_right (group_left ps e g) (flat_map (group_left ps e) gs) i (collected-all ps e ss gs (suc s) h.2 i x at left there)
+collected-all ps e (s ∷ ss) (g ∷ gs) low h i x at left (inr there) = Contains-append_right (remaining_group ps e g) (flat_map (remaining_group ps e) gs) i (collected-all ps e ss gs (suc s) h.2 i x at left there)
 collected-all ps e (s ∷ ss) (g ∷ gs) low h i x at left (inl here) =
     let is : slice_get e i ≡ Some s = All-contains (λ k. slice_get e k ≡ Some s) g i h.1.only here in
     let same : x ≡ s = cc in
-    let kept : is_group_left ps e g ≡ true = group-left ps e s g h.1 ∙ (ap (has_nonempty_image ps) (sym same) ∙ left) in
-    Contains-append_left (group_left ps e g) (flat_map (group_left ps e) gs) i (subst (λ b. Contains (cond b g []) i) (sym kept) here)
+    let kept : is_group_remaining ps e g ≡ true = group-left ps e s g h.1 ∙ (ap (has_nonempty_image ps) (sym same) ∙ left) in
+    Contains-append_left (remaining_group ps e g) (flat_map (remaining_group ps e) gs) i (subst (λ b. Contains (cond b g []) i) (sym kept) here)
 
 -- the next group is visited
 collect-more : (f : List ℕ → List ℕ) (gs : List (List ℕ)) (at : ℕ) (g old new : List ℕ) → slice_get gs at ≡ Some g → old ≡ flat_map f (take at gs) → new ≡ old ++ f g → new ≡ flat_map f (take (at + 1) gs)
@@ -78,38 +78,38 @@ collect-more f gs at g old new here is more =
     let last = ap (λ x. take at gs ++ x ∷ []) (sym (get_or_from_slice_get gs at g [] here)) ∙ sym (take_more gs at [] within) in
     more ∙ (ap (λ o. o ++ f g) is ∙ (flat_map_more f [] (take at gs) g ∙ ap (flat_map f) last))
 
-collect-kept : (ps : List (ℕ × SymbolRange)) (e : List ℕ) (gs : List (List ℕ)) (at : ℕ) (g old new : List ℕ) → slice_get gs at ≡ Some g → old ≡ flat_map (group_left ps e) (take at gs) → is_group_left ps e g ≡ true → new ≡ old ++ g → new ≡ flat_map (group_left ps e) (take (at + 1) gs)
-collect-kept ps e gs at g old new here is kept more = collect-more (group_left ps e) gs at g old new here is (more ∙ ap (λ b. old ++ cond b g []) (sym kept))
+collect-kept : (ps : List (ℕ × SymbolRange)) (e : List ℕ) (gs : List (List ℕ)) (at : ℕ) (g old new : List ℕ) → slice_get gs at ≡ Some g → old ≡ flat_map (remaining_group ps e) (take at gs) → is_group_remaining ps e g ≡ true → new ≡ old ++ g → new ≡ flat_map (remaining_group ps e) (take (at + 1) gs)
+collect-kept ps e gs at g old new here is kept more = collect-more (remaining_group ps e) gs at g old new here is (more ∙ ap (λ b. old ++ cond b g []) (sym kept))
 
-collect-passed : (ps : List (ℕ × SymbolRange)) (e : List ℕ) (gs : List (List ℕ)) (at : ℕ) (g old : List ℕ) → slice_get gs at ≡ Some g → old ≡ flat_map (group_left ps e) (take at gs) → is_group_left ps e g ≡ false → old ≡ flat_map (group_left ps e) (take (at + 1) gs)
-collect-passed ps e gs at g old here is passed = collect-more (group_left ps e) gs at g old old here is (sym (append-nil old) ∙ ap (λ b. old ++ cond b g []) (sym passed))
+collect-passed : (ps : List (ℕ × SymbolRange)) (e : List ℕ) (gs : List (List ℕ)) (at : ℕ) (g old : List ℕ) → slice_get gs at ≡ Some g → old ≡ flat_map (remaining_group ps e) (take at gs) → is_group_remaining ps e g ≡ false → old ≡ flat_map (remaining_group ps e) (take (at + 1) gs)
+collect-passed ps e gs at g old here is passed = collect-more (remaining_group ps e) gs at g old old here is (sym (append-nil old) ∙ ap (λ b. old ++ cond b g []) (sym passed))
 
 -- a group is left exactly if its symbol is
 module _ (ps : List (ℕ × SymbolRange)) (e : List ℕ) (gs : SymbolGroups) (places : ArePlacesOf e gs) where
-  told : (at : ℕ) (b : Bool) → at < length gs.symbols → has_nonempty_image ps (get_or gs.symbols at 0) ≡ b → is_group_left ps e (get_or gs.groups at []) ≡ b
+  told : (at : ℕ) (b : Bool) → at < length gs.symbols → has_nonempty_image ps (get_or gs.symbols at 0) ≡ b → is_group_remaining ps e (get_or gs.groups at []) ≡ b
   told at b within h = group-left ps e (get_or gs.symbols at 0) (get_or gs.groups at []) (group-at e gs.symbols gs.groups 0 at places.each within) ∙ h
 
   there : (at : ℕ) → at < length gs.symbols → slice_get gs.groups at ≡ Some (get_or gs.groups at [])
   there at within = slice_get-get_or gs.groups at [] (let n = groups-count e gs.symbols gs.groups 0 places.each in omega (arith, n, within))
 
-  pub symbol-kept : (at : ℕ) (old g new : List ℕ) → at < length gs.symbols → old ≡ flat_map (group_left ps e) (take at gs.groups) → slice_get gs.groups at ≡ Some g → has_nonempty_image ps (get_or gs.symbols at 0) ≡ true → new ≡ old ++ g
-      → new ≡ flat_map (group_left ps e) (take (at + 1) gs.groups)
+  pub symbol-kept : (at : ℕ) (old g new : List ℕ) → at < length gs.symbols → old ≡ flat_map (remaining_group ps e) (take at gs.groups) → slice_get gs.groups at ≡ Some g → has_nonempty_image ps (get_or gs.symbols at 0) ≡ true → new ≡ old ++ g
+      → new ≡ flat_map (remaining_group ps e) (take (at + 1) gs.groups)
   symbol-kept at old g new within done here kept more =
       let same : get_or gs.groups at [] ≡ g = get_or_from_slice_get gs.groups at g [] here in
-      collect-kept ps e gs.groups at g old new here done (subst (λ x. is_group_left ps e x ≡ true) same (told at true within kept)) more
+      collect-kept ps e gs.groups at g old new here done (subst (λ x. is_group_remaining ps e x ≡ true) same (told at true within kept)) more
 
   -- symbols that are skipped add no indexes
-  pub symbols-passed : (from more to : ℕ) (old : List ℕ) → from + more ≡ to → to ≤ length gs.symbols → old ≡ flat_map (group_left ps e) (take from gs.groups)
-      → ((j : ℕ) → from ≤ j → j < to → has_nonempty_image ps (get_or gs.symbols j 0) ≡ false) → old ≡ flat_map (group_left ps e) (take to gs.groups)
-  symbols-passed from zero to old count within done passed = (let n : from ≡ to = omega (arith, count) in done ∙ ap (λ m. flat_map (group_left ps e) (take m gs.groups)) n)
+  pub symbols-passed : (from more to : ℕ) (old : List ℕ) → from + more ≡ to → to ≤ length gs.symbols → old ≡ flat_map (remaining_group ps e) (take from gs.groups)
+      → ((j : ℕ) → from ≤ j → j < to → has_nonempty_image ps (get_or gs.symbols j 0) ≡ false) → old ≡ flat_map (remaining_group ps e) (take to gs.groups)
+  symbols-passed from zero to old count within done passed = (let n : from ≡ to = omega (arith, count) in done ∙ ap (λ m. flat_map (remaining_group ps e) (take m gs.groups)) n)
   symbols-passed from (suc more) to old count within done passed =
       let here : from < length gs.symbols = omega (arith, count, within) in
       let next = collect-passed ps e gs.groups from (get_or gs.groups from []) old (there from here) done (told from false here (passed from (omega arith) (omega (arith, count)))) in
       symbols-passed (from + 1) more to old (omega (arith, count)) within next (λ j low high. passed j (omega (arith, low)) high)
 
   -- after the last symbol all groups were visited
-  pub all-groups : (at : ℕ) (found : List ℕ) → length gs.symbols ≤ at → found ≡ flat_map (group_left ps e) (take at gs.groups) → found ≡ flat_map (group_left ps e) gs.groups
-  all-groups at found end done = done ∙ ap (flat_map (group_left ps e)) (take_all at gs.groups (let n = groups-count e gs.symbols gs.groups 0 places.each in omega (arith, n, end)))
+  pub all-groups : (at : ℕ) (found : List ℕ) → length gs.symbols ≤ at → found ≡ flat_map (remaining_group ps e) (take at gs.groups) → found ≡ flat_map (remaining_group ps e) gs.groups
+  all-groups at found end done = done ∙ ap (flat_map (remaining_group ps e)) (take_all at gs.groups (let n = groups-count e gs.symbols gs.groups 0 places.each in omega (arith, n, end)))
 
 -- ---- ascending indexes, and the symbols at these
 
@@ -168,7 +168,7 @@ picks p f (x ∷ e) k list at h =
     pick-one p f x e k here (λ l a. picks p f e (suc k) l (λ j. let n : suc k + j ≡ k + suc j = omega arith in ap f n ∙ at (suc j)) a) (p x) refl list h
 
 -- the indexes of the groups that are left, in ascending order, give the symbols that are left
-pub remaining-read : (ps : List (ℕ × SymbolRange)) (e : List ℕ) (gs : SymbolGroups) (all list : List ℕ) → ArePlacesOf e gs → all ≡ flat_map (group_left ps e) gs.groups → ListsExactly (λ i. In i all) list → filter_map (slice_get e) list ≡ remaining ps e
+pub remaining-read : (ps : List (ℕ × SymbolRange)) (e : List ℕ) (gs : SymbolGroups) (all list : List ℕ) → ArePlacesOf e gs → all ≡ flat_map (remaining_group ps e) gs.groups → ListsExactly (λ i. In i all) list → filter_map (slice_get e) list ≡ remaining ps e
 remaining-read ps e gs all list places is those =
     picks (has_nonempty_image ps) (slice_get e) e 0 list (λ j. let n : 0 + j ≡ j = omega arith in ap (slice_get e) n) (record {
       ascends = those.ascends;

@@ -1,5 +1,5 @@
 -- The places of variables, as symbols are met.
-use Rattle.subst.proofs.Words.{◌≡◌, ℕ, ◌+◌, ◌<◌, ◌⊎◌, false, List, [], ◌∷◌, ◌++◌, length, get_or, Option, Some, None, Result, Ok, Err, OnOk, is_ok, is_err, if◌then◌else◌, refl, sym, ◌∙◌, ap, subst, arith, inl, inr, cases_eq, get_or_append_left, get_or_push, length_push, Numbered, MetSymbol, MetVariables, are_places_disjoint, IsAt, Grows, IsPlace, IsListed, IsVariable, ArePlaced, HasVariable, ArePlacesOf, IsAmong, All-nil, All-same, All-push, All-weaker, All-contains}
+use Rattle.subst.proofs.Words.{◌≡◌, ℕ, ◌+◌, ◌<◌, ◌⊎◌, false, List, [], ◌∷◌, ◌++◌, length, get_or, Option, Some, None, Result, Ok, Err, OnOk, is_ok, is_err, if◌then◌else◌, refl, sym, ◌∙◌, ap, subst, arith, inl, inr, cases_eq, get_or_append_left, get_or_push, length_push, Numbered, MetSymbol, MetVariables, are_places_disjoint, IsAt, Grows, IsPlaceOf, IsMet, IsVariable, ArePlaced, HasVariable, ArePlacesOf, IsAmong, All-nil, All-same, All-push, All-weaker, All-contains}
 
 pub grows-own : (f : MetVariables) → Grows f f
 grows-own f = record { each = λ j x at. at }
@@ -15,27 +15,27 @@ place-grown f g j grows h = grows.each j (get_or f.variables j 0) (record { ther
 pub kept-grown : (v : Numbered) (f g : MetVariables) (i j : ℕ) → Grows f g → i < length f.variables → j < length f.variables → are_places_disjoint v g i j ≡ are_places_disjoint v f i j
 kept-grown v f g i j grows hi hj = rw ((place-grown f g i grows hi).same, (place-grown f g j grows hj).same) refl
 
-pub is_place-grown : (v : Numbered) (f g : MetVariables) (x : ℕ) (o : Option ℕ) → Grows f g → IsPlace v f x o → IsPlace v g x o
+pub is_place-grown : (v : Numbered) (f g : MetVariables) (x : ℕ) (o : Option ℕ) → Grows f g → IsPlaceOf v f x o → IsPlaceOf v g x o
 is_place-grown v f g x None grows h = h
 is_place-grown v f g x (Some j) grows h = grows.each j x h
 
-pub listed-place : (v : Numbered) (f : MetVariables) (x : ℕ) (o : Option ℕ) → ArePlaced v f → IsListed f x o → IsPlace v f x o
-listed-place v f x o placed at = All-contains (λ (s : MetSymbol). IsPlace v f s.number s.place) f.symbols (record { number = x; place = o }) placed.symbols at
+pub listed-place : (v : Numbered) (f : MetVariables) (x : ℕ) (o : Option ℕ) → ArePlaced v f → IsMet f x o → IsPlaceOf v f x o
+listed-place v f x o placed at = All-contains (λ (s : MetSymbol). IsPlaceOf v f s.number s.place) f.symbols (record { number = x; place = o }) placed.symbols at
 
 -- the symbol at a place is a variable
 pub at-variable : (v : Numbered) (f : MetVariables) (j x : ℕ) → ArePlaced v f → IsAt f j x → IsVariable v x
 at-variable v f j x placed at = subst (IsVariable v) at.same (placed.variables j 0 at.there)
 
 pub placed-none : (v : Numbered) (f : MetVariables) → f.symbols ≡ [] → f.variables ≡ [] → ArePlaced v f
-placed-none v f a b = record { symbols = All-same (λ (s : MetSymbol). IsPlace v f s.number s.place) f.symbols [] a (All-nil (λ (s : MetSymbol). IsPlace v f s.number s.place)); variables = All-same (IsVariable v) f.variables [] b (All-nil (IsVariable v)) }
+placed-none v f a b = record { symbols = All-same (λ (s : MetSymbol). IsPlaceOf v f s.number s.place) f.symbols [] a (All-nil (λ (s : MetSymbol). IsPlaceOf v f s.number s.place)); variables = All-same (IsVariable v) f.variables [] b (All-nil (IsVariable v)) }
 
 -- the record of a symbol is appended
-pub placed-symbol : (v : Numbered) (f : MetVariables) (s : MetSymbol) → ArePlaced v f → IsPlace v f s.number s.place → let g : MetVariables = record { symbols = f.symbols ++ s ∷ []; variables = f.variables } in ArePlaced v g × Grows f g × IsPlace v g s.number s.place
+pub placed-symbol : (v : Numbered) (f : MetVariables) (s : MetSymbol) → ArePlaced v f → IsPlaceOf v f s.number s.place → let g : MetVariables = record { symbols = f.symbols ++ s ∷ []; variables = f.variables } in ArePlaced v g × Grows f g × IsPlaceOf v g s.number s.place
 placed-symbol v f s placed own =
     let g : MetVariables = record { symbols = f.symbols ++ s ∷ []; variables = f.variables } in
     let grows : Grows f g = record { each = λ j x at. record { there = at.there; same = at.same } } in (
       record {
-        symbols = All-weaker (λ (t : MetSymbol). IsPlace v f t.number t.place) (λ t. IsPlace v g t.number t.place) (λ t h. is_place-grown v f g t.number t.place grows h) g.symbols (All-push (λ (t : MetSymbol). IsPlace v f t.number t.place) f.symbols s placed.symbols own);
+        symbols = All-weaker (λ (t : MetSymbol). IsPlaceOf v f t.number t.place) (λ t. IsPlaceOf v g t.number t.place) (λ t h. is_place-grown v f g t.number t.place grows h) g.symbols (All-push (λ (t : MetSymbol). IsPlaceOf v f t.number t.place) f.symbols s placed.symbols own);
         variables = placed.variables;
       },
       grows,
@@ -48,7 +48,7 @@ placed-variable v f x placed is =
     let g : MetVariables = record { symbols = f.symbols; variables = f.variables ++ x ∷ [] } in
     let grows : Grows f g = record { each = λ j y at. (let low = at.there in record { there = omega (arith, low, length_push f.variables x); same = get_or_append_left f.variables (x ∷ []) 0 j low ∙ at.same }) } in (
       record {
-        symbols = All-weaker (λ (t : MetSymbol). IsPlace v f t.number t.place) (λ t. IsPlace v g t.number t.place) (λ t h. is_place-grown v f g t.number t.place grows h) g.symbols placed.symbols;
+        symbols = All-weaker (λ (t : MetSymbol). IsPlaceOf v f t.number t.place) (λ t. IsPlaceOf v g t.number t.place) (λ t h. is_place-grown v f g t.number t.place grows h) g.symbols placed.symbols;
         variables = All-push (IsVariable v) f.variables x placed.variables is;
       },
       grows,

@@ -42,17 +42,17 @@ pub use Rattle.std.specs.Simd.Lanes.{mask_l, top, zip2}
 pub use Rattle.subst.specs.DisjointImages.{are_numbers_disjoint, are_two_disjoint, image_named, is_number_disjoint}
 pub use Rattle.subst.specs.Images.{is_image_disjoint}
 pub use Rattle.subst.specs.Laws.{AreImagesDisjoint, DisjointConditionLaw, SubstitutionOverNames}
-pub use Rattle.subst.specs.Stored.DisjointRows.{AreFacts, ArePairs, HasFact, IsFact, IsRowAt, RecordsWord, DecidesAll, DecidesBits, DecidesEach, DecidesWord, no_row}
+pub use Rattle.subst.specs.Stored.DisjointRows.{AreFacts, ArePairs, HasFact, IsFact, IsRowWordAt, RecordsWord, DecidesPlaceAndWords, DecidesWordAndWords, DecidesWordsAndWords, DecidesPlaceAndWord, no_row_word}
 pub use Rattle.subst.specs.Stored.DisjointTables.{AreTables, are_named_disjoint}
 pub use Rattle.subst.specs.Stored.ImagePairs.{AreDisjointPairs, IsDisjointPair, IsInside, RecordsPair}
-pub use Rattle.subst.specs.Stored.ImageVariables.{AddsImage, Appends, AppendsWord, AreImagesRecorded, AreRead, GrowsWords, IsIn, IsLong, IsRangeOf, RecordsReadImage, AppendsAndChangesList, ChangesOnlyList, RecordedImages, RecordsImage}
-pub use Rattle.subst.specs.Stored.PlaceSets.{AddsFirst, AddsSymbols, AddsWord, AddsWords, ArePlacesBelow, HasAmong, HasBit, HasEither, HasPlace, TakesPlace, near_word, no_word}
-pub use Rattle.subst.specs.Stored.ImageTables.{AreUpTo, placed}
-pub use Rattle.subst.specs.Stored.SymbolMarks.{AreMarksOf, HasBoth, IsMarked, TakesMark, TakesPlaces, number_at}
-pub use Rattle.subst.specs.Stored.VariablePlaces.{AreBitsOf, ArePlaced, ArePlacesOf, Grows, HasVariable, IsAmong, IsAt, IsListed, IsPlace, IsVariable, MetVariables, are_places_disjoint, variable_name}
+pub use Rattle.subst.specs.Stored.ImageVariables.{AddsImage, AppendsCurrent, AppendsWord, AreLongImages, AreReadImages, GrowsWords, RangeHasPlace, IsLongImage, IsWordRangeOf, RecordsReadImage, AppendsAndChangesCurrent, ChangesOnlyCurrent, RecordedImages, RecordsLongImage}
+pub use Rattle.subst.specs.Stored.PlaceSets.{AddsFirst, AddsSymbols, AddsWord, AddsWords, ArePlacesBelow, HasPlaceAmong, HasBit, HasEither, HasPlace, AddsPlaceToWord, first_word, no_word}
+pub use Rattle.subst.specs.Stored.ImageTables.{AreUpTo, images_in_round}
+pub use Rattle.subst.specs.Stored.SymbolMarks.{AreMarksOf, HasBoth, IsMarked, RemovesMark, RemovesMarksOfPlaces, number_at}
+pub use Rattle.subst.specs.Stored.VariablePlaces.{AreBitsOf, ArePlaced, ArePlacesOf, Grows, HasVariable, IsAmong, IsAt, IsMet, IsPlaceOf, IsVariable, MetVariables, are_places_disjoint, variable_name}
 pub use Rattle.subst.specs.Stored.Written.{IsWritten, LacksRoom}
 pub use Rattle.subst.specs.SymbolRanges.{AreInside, AreWithin, images_at, symbols_in}
-pub use Rattle.subst.specs.RemainingSymbols.{group_left, is_group_left, has_nonempty_image, is_range_nonempty, is_symbol_left, remaining}
+pub use Rattle.subst.specs.RemainingSymbols.{remaining_group, is_group_remaining, has_nonempty_image, is_range_nonempty, is_symbol_remaining, remaining}
 pub use Rattle.subst.specs.contracts.subject.Subject.{the_row, the_type}
 pub use Rattle.subst.specs.declared.disjoint_rows.RowWord.{RowWord}
 pub use Rattle.subst.specs.declared.disjoint_tables.DisjointTables.{DisjointTables}

@@ -8,4 +8,4 @@ use Rattle.frame.specs.Parts.{Numbered}
 -- the statements and names that the cache is for, and the symbols of the buffer when facts were last recorded
 pub record CacheSubject : Type 0 where
   pub about : Numbered
-  pub over : List ℕ
+  pub buffer_symbols : List ℕ

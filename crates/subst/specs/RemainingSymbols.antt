@@ -24,43 +24,43 @@ has_nonempty_image images x = is_range_nonempty (lookup (nat_eq x) images)
 abbrev pub remaining : List (ℕ × SymbolRange) → List ℕ → List ℕ
 remaining images expr = filter (has_nonempty_image images) expr
 
--- substitution gives the same result for what is left as for the expression, whichever buffer the images are ranges of
+-- substitution gives the same result for this part as for the expression, whichever buffer the images are ranges of
 abbrev pub HaveSameResult : List (ℕ × SymbolRange) → List ℕ → List ℕ → Type 0
-HaveSameResult images left expr = (symbols : List ℕ) → code_apply (images_at symbols images) left ≡ code_apply (images_at symbols images) expr
+HaveSameResult images part expr = (symbols : List ℕ) → code_apply (images_at symbols images) part ≡ code_apply (images_at symbols images) expr
 
 -- the symbol at the first index of a group
 abbrev pub first_symbol : List ℕ → List ℕ → Option ℕ
 first_symbol expr group = option_and_then (slice_get expr) (slice_get group 0)
 
 -- there is a symbol, and its image is not empty
-abbrev pub is_symbol_left : List (ℕ × SymbolRange) → Option ℕ → Bool
-is_symbol_left images None = false
-is_symbol_left images (Some x) = has_nonempty_image images x
+abbrev pub is_symbol_remaining : List (ℕ × SymbolRange) → Option ℕ → Bool
+is_symbol_remaining images None = false
+is_symbol_remaining images (Some x) = has_nonempty_image images x
 
 -- the image of the symbol at the first index of the group is not empty
-abbrev pub is_group_left : List (ℕ × SymbolRange) → List ℕ → List ℕ → Bool
-is_group_left images expr group = is_symbol_left images (first_symbol expr group)
+abbrev pub is_group_remaining : List (ℕ × SymbolRange) → List ℕ → List ℕ → Bool
+is_group_remaining images expr group = is_symbol_remaining images (first_symbol expr group)
 
 -- the group, or nothing if that image is empty
-abbrev pub group_left : List (ℕ × SymbolRange) → List ℕ → List ℕ → List ℕ
-group_left images expr group = if is_group_left images expr group then group else []
+abbrev pub remaining_group : List (ℕ × SymbolRange) → List ℕ → List ℕ → List ℕ
+remaining_group images expr group = if is_group_remaining images expr group then group else []
 
--- ---- the symbols that were listed for an expression
+-- ---- symbols that were listed for an expression
 
--- symbols listed for statements by position, each pair as one number, and the symbols that are left of an expression
-pub record RemainingLists : Type 0 where
+-- the pairs of a position and a symbol that is listed for it, each as one number, and the symbols that were found in an expression
+pub record ListedAndFound : Type 0 where
   pub keys : List ℕ
-  pub left : List ℕ
+  pub found : List ℕ
 
 -- there is a symbol, and it is one of these
 abbrev pub is_among : List ℕ → Option ℕ → Bool
 is_among symbols None = false
 is_among symbols (Some x) = list_any (λ s. x == s) symbols
 
--- the occurrences of some symbols are left of the expression, among which are its constants and the symbols that were listed for
+-- all occurrences of some symbols of the expression are found, among which are its constants and the symbols that were listed for
 -- the statement at the position
-pub record HasListed (keys : List ℕ) (position : ℕ) (constants expr left : List ℕ) : Type 0 where
+pub record HasListed (keys : List ℕ) (position : ℕ) (constants expr found : List ℕ) : Type 0 where
   pub keeps : ℕ → Bool
-  pub is : left ≡ filter keeps expr
+  pub is : found ≡ filter keeps expr
   pub constants_stay : (s : ℕ) → list_any (λ c. s == c) constants ≡ true → keeps s ≡ true
   pub listed_stay : (s : ℕ) → s < 2 ^ 32 → In (key_of position s) keys → keeps s ≡ true

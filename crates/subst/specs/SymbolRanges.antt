@@ -12,12 +12,12 @@ symbols_in symbols p = slice_range symbols p.start p.end
 -- each range lies within the first n symbols
 abbrev pub AreWithin : ℕ → List SymbolRange → Type 0
 AreWithin n [] = Unit {0}
-AreWithin n (p ∷ places) = (p.start ≤ p.end) × (p.end ≤ n) × AreWithin n places
+AreWithin n (p ∷ ranges) = (p.start ≤ p.end) × (p.end ≤ n) × AreWithin n ranges
 
 -- the images in these ranges
 abbrev pub images_at : List ℕ → List (ℕ × SymbolRange) → CodeImages
-images_at symbols places = map (λ p. (p.0, symbols_in symbols p.1)) places
+images_at symbols ranges = map (λ p. (p.0, symbols_in symbols p.1)) ranges
 
 -- each image lies within the first n symbols
-pub record AreInside (n : ℕ) (places : List (ℕ × SymbolRange)) : Type 0 where
-  pub each : (x : ℕ) (p : SymbolRange) → lookup (nat_eq x) places ≡ Some p → (p.start ≤ p.end) × (p.end ≤ n)
+pub record AreInside (n : ℕ) (ranges : List (ℕ × SymbolRange)) : Type 0 where
+  pub each : (x : ℕ) (p : SymbolRange) → lookup (nat_eq x) ranges ≡ Some p → (p.start ≤ p.end) × (p.end ≤ n)

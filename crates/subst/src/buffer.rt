@@ -5,11 +5,11 @@ ghost use Rattle.subst.specs.Stored.Written.{Appends};
 ghost use Rattle.subst.specs.SymbolRanges.{AreInside, images_at, symbols_in};
 
 use crate::copies::put_expr;
-use crate::filling::{fill, filled_len, make_room};
 use crate::image_ranges::ImageRanges;
-use crate::images::{Subst, write};
+use crate::images::{Subst, append_applied};
 use crate::matching::matches;
 use crate::symbol_range::SymbolRange;
+use crate::writing::{applied_len, make_room, write_applied};
 use std::alloc::{AllocError, Global};
 use std::marker::Model;
 use std::ops::Range;
@@ -64,18 +64,18 @@ impl Buffer {
         &self.symbols[..self.len]
     }
 
-    /// Returns whether the symbols in the range `whole` are the expression with all images
-    /// substituted. The images are ranges of this buffer too.
+    /// Returns whether the symbols in a range are the expression with all images substituted. The
+    /// images are ranges of this buffer too.
     ///
     /// Cost: a look-up for each symbol of the expression, and the symbols that agree, each once;
     /// nothing is written.
     #[inline(always)]
-    pub fn matches(&self, images: &ImageRanges, expr: &[u32], whole: SymbolRange) -> bool
+    pub fn matches(&self, images: &ImageRanges, expr: &[u32], range: SymbolRange) -> bool
         requires inside { AreInside (length self.now) images.now }
-        requires place { (whole.start ≤ whole.end) × (whole.end ≤ length self.now) }
-        ensures { IsTrue result ↔ (symbols_in self.now whole ≡ code_apply (images_at self.now images.now) expr.now) }
+        requires range { (range.start ≤ range.end) × (range.end ≤ length self.now) }
+        ensures { IsTrue result ↔ (symbols_in self.now range ≡ code_apply (images_at self.now images.now) expr.now) }
     {
-        matches(&self.symbols, images, expr, whole)
+        matches(&self.symbols, images, expr, range)
     }
 
     /// Appends symbols.
@@ -120,7 +120,7 @@ impl Buffer {
         ensures ok { IfOk result (λ ok. Appends ok limit self.old self.new (code_apply (images_at self.old images.now) expr.now)) }
         ensures err { OnErr result (self.new ≡ self.old) }
     {
-        let Some(end) = fill(&mut self.symbols, self.len, images, expr) else {
+        let Some(end) = write_applied(&mut self.symbols, self.len, images, expr) else {
             return self.add_growing(images, expr, limit);
         };
         if end - self.len > limit {
@@ -144,11 +144,11 @@ impl Buffer {
         ensures ok { IfOk result (λ ok. Appends ok limit self.old self.new (code_apply (images_at self.old images.now) expr.now)) }
         ensures err { OnErr result (self.new ≡ self.old) }
     {
-        let Some(len) = filled_len(self.as_slice(), images, expr, limit) else {
+        let Some(len) = applied_len(self.as_slice(), images, expr, limit) else {
             return Ok(false);
         };
         make_room(&mut self.symbols, self.len, len + expr.len())?;
-        let Some(end) = fill(&mut self.symbols, self.len, images, expr) else {
+        let Some(end) = write_applied(&mut self.symbols, self.len, images, expr) else {
             unreachable!();
         };
         self.len = end;
@@ -167,12 +167,12 @@ pub fn apply_into(
 ) -> Result<Range<usize>, AllocError>
     requires { length buffer.old + length (code_apply subst.now expr.now) ≤ SYMBOLS_LIMIT }
     ensures added { OnOk result (buffer.new ≡ buffer.old ++ code_apply subst.now expr.now) }
-    ensures place { IfOk result (λ place. (place.start ≡ length buffer.old) × (place.end ≡ length buffer.new)) }
+    ensures range { IfOk result (λ range. (range.start ≡ length buffer.old) × (range.end ≡ length buffer.new)) }
     ensures same { OnErr result (buffer.new ≡ buffer.old) }
 {
     let start = buffer.len;
     buffer.symbols.truncate(start);
-    write(subst, expr, &mut buffer.symbols)?;
+    append_applied(subst, expr, &mut buffer.symbols)?;
     buffer.len = buffer.symbols.len();
     Ok(start..buffer.len)
 }

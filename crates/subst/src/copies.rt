@@ -9,7 +9,7 @@ use std::simd::prelude::*;
 /// The number of symbols that are copied at once. Up to this many are overwritten after the end of a copy.
 pub const LANES: usize = 32;
 
-/// Copies the `len` symbols from `from` on, all of which are before `at`, to `at`. Most copies fit into the first block.
+/// Copies the `len` symbols from `from` on, all of them before `at`, to `at`. A copy of at most `LANES` symbols does not enter the loop.
 #[inline(always)]
 fn copy_run(symbols: &mut [u32], from: usize, len: usize, at: usize)
     requires before { from + len ≤ at }
@@ -25,24 +25,24 @@ fn copy_run(symbols: &mut [u32], from: usize, len: usize, at: usize)
     }
 }
 
-/// Copies the symbols in the range `place` to `at`, and returns where the copy ends, or `None` if
-/// that is after `last`.
+/// Copies the symbols in a range to `at`, and returns where the copy ends. Returns `None` if that
+/// would be after `last`.
 #[inline(always)]
-pub fn copy_range(symbols: &mut [u32], at: usize, last: usize, place: SymbolRange) -> Option<usize>
-    requires place { (place.start ≤ place.end) × (place.end ≤ at) }
+pub fn copy_range(symbols: &mut [u32], at: usize, last: usize, range: SymbolRange) -> Option<usize>
+    requires range { (range.start ≤ range.end) × (range.end ≤ at) }
     requires inside { at ≤ length symbols.old }
     requires room { last + 32 ≤ length symbols.old }
-    ensures some { IfSome result (IsWritten symbols.old symbols.new at (symbols_in (take at symbols.old) place)) }
+    ensures some { IfSome result (IsWritten symbols.old symbols.new at (symbols_in (take at symbols.old) range)) }
     ensures within { IfSome result (λ end. end ≤ last) }
-    ensures none { IfNone result (last < at + length (symbols_in (take at symbols.old) place)) }
+    ensures none { IfNone result (last < at + length (symbols_in (take at symbols.old) range)) }
     ensures kept { take at symbols.new ≡ take at symbols.old }
     ensures count { length symbols.new ≡ length symbols.old }
 {
-    let len = (place.end - place.start) as usize;
+    let len = (range.end - range.start) as usize;
     if at + len > last {
         return None;
     }
-    copy_run(symbols, place.start as usize, len, at);
+    copy_run(symbols, range.start as usize, len, at);
     Some(at + len)
 }
 
@@ -58,7 +58,7 @@ pub fn put_symbol(symbols: &mut [u32], at: usize, symbol: u32) -> usize
     at + 1
 }
 
-/// Writes an expression at `at`. Most expressions are the two symbols of a `$f`.
+/// Writes an expression at `at`. One of two symbols, such as that of a `$f`, needs no call to copy.
 pub fn put_expr(symbols: &mut [u32], at: usize, expr: &[u32])
     requires { at + length expr.now ≤ length symbols.old }
     ensures written { take (at + length expr.now) symbols.new ≡ take at symbols.old ++ expr.now }

@@ -22,7 +22,7 @@ use std::marker::Model;
 /// were found to be disjoint, and the variables of long results.
 ///
 /// Contracts see the statements and names that it is for (`about`), and the symbols of the buffer
-/// when facts were last recorded (`over`). Its memory serves one proof after another.
+/// when facts were last recorded (`buffer_symbols`). Its memory serves one proof after another.
 #[derive(Drop)]
 pub struct DisjointCache {
     /// The statements, names and symbols that the facts are about; only contracts see them.
@@ -37,15 +37,15 @@ impl Model for DisjointCache {
 
     ghost Value = { CacheSubject };
 
-    ghost view = { λ a. record { about = a.subject.about; over = a.subject.over } };
+    ghost view = { λ a. record { about = a.subject.about; buffer_symbols = a.subject.buffer_symbols } };
 
-    ghost invariant = { λ a. AreTables a.subject.about a.subject.over a.tables };
+    ghost invariant = { λ a. AreTables a.subject.about a.subject.buffer_symbols a.tables };
 }
 
 impl DisjointCache {
     /// Returns an empty cache, for no proof yet. Does not allocate.
     pub fn new(alloc: Global) -> DisjointCache
-        ensures { result.over ≡ [] }
+        ensures { result.buffer_symbols ≡ [] }
     {
         DisjointCache {
             subject: Subject::none(),
@@ -57,27 +57,25 @@ impl DisjointCache {
     /// the statement of the proof. Keeps the memory.
     ///
     /// Cost: a step for each pair of images that was recorded in the previous proof.
-    pub fn begin(&mut self, pairs: &Pairs<'_>)
-        ensures { self.new ≡ record { about = pairs.now; over = [] } }
+    pub fn begin_proof(&mut self, pairs: &Pairs<'_>)
+        ensures { self.new ≡ record { about = pairs.now; buffer_symbols = [] } }
     {
         self.tables.clear();
         self.subject = Subject::of(pairs);
     }
 
     /// Empties the cache, and frees the memory of images, of pairs of images and of marks of
-    /// symbols. Keeps the other tables that are indexed by symbol, and the pairs that long searches
-    /// found.
+    /// symbols. Keeps the other memory, and the pairs that long searches found.
     ///
     /// Does not allocate.
     pub fn release(&mut self, alloc: Global)
-        ensures { self.new.over ≡ [] }
+        ensures { self.new.buffer_symbols ≡ [] }
     {
         self.tables.release(alloc);
         self.subject = Subject::none();
     }
 
-    /// Has the frames make again long searches for pairs that proofs made, so that the frames keep
-    /// the answers.
+    /// Repeats long searches for pairs that proofs made, so that the frames keep the answers.
     ///
     /// Cost: that of `PairMemo::repeat_searches`.
     pub fn repeat_searches(&mut self, frames: &mut Frames)
@@ -95,10 +93,10 @@ impl DisjointCache {
     /// Errors: an allocation fails.
     /// Cost: the number of variables in the groups; each image once, or up to twice if a variable
     /// of it is beyond the first 64 of the proof, or only the number of its variables if they were
-    /// recorded with a long result. For two images, the product of their numbers of variables: over
-    /// 64 if all these pairs are known, else times the cost of `Pairs::has_by_memo`. If that
-    /// product is large, it is paid once in a proof for up to 1,048,576 pairs of images, and later
-    /// costs a look-up.
+    /// recorded with a long result. For two images, the product of their numbers of variables,
+    /// divided by 64 if all these pairs are known, else times the cost of `Pairs::has_by_memo`. If
+    /// that product is large, it is paid once in a proof for up to 1,048,576 pairs of images, and
+    /// later costs a look-up.
     /// Source: Metamath, 4.2.6.
     #[inline(always)]
     pub fn are_groups_disjoint(
@@ -109,13 +107,13 @@ impl DisjointCache {
         images: &ImageRanges,
     ) -> Result<bool, AllocError>
         requires about { self.old.about ≡ pairs.now }
-        requires over { (more : List ℕ) × (symbols.now ≡ self.old.over ++ more) }
+        requires symbols { (more : List ℕ) × (symbols.now ≡ self.old.buffer_symbols ++ more) }
         requires distinct { AreDistinct pairs.now.names }
         requires named { AreOver pairs.now.names (images_at symbols.now images.now) }
         requires inside { AreInside (length symbols.now) images.now }
         requires below { AllBelow (length pairs.now.names) groups.now }
         ensures about { self.new.about ≡ self.old.about }
-        ensures over { (more : List ℕ) × (symbols.now ≡ self.new.over ++ more) }
+        ensures symbols { (more : List ℕ) × (symbols.now ≡ self.new.buffer_symbols ++ more) }
         ensures disjoint { IfOk result (λ ok. ok ≡ are_groups_disjoint pairs.now.statements (images_of_names pairs.now.names (images_at symbols.now images.now)) (map (decode pairs.now.names) groups.now)) }
     {
         if groups.len() == 0 {
@@ -134,13 +132,13 @@ impl DisjointCache {
         images: &ImageRanges,
     ) -> Result<bool, AllocError>
         requires about { self.old.about ≡ pairs.now }
-        requires over { (more : List ℕ) × (symbols.now ≡ self.old.over ++ more) }
+        requires symbols { (more : List ℕ) × (symbols.now ≡ self.old.buffer_symbols ++ more) }
         requires distinct { AreDistinct pairs.now.names }
         requires named { AreOver pairs.now.names (images_at symbols.now images.now) }
         requires inside { AreInside (length symbols.now) images.now }
         requires below { AllBelow (length pairs.now.names) groups.now }
         ensures about { self.new.about ≡ self.old.about }
-        ensures over { self.new.over ≡ symbols.now }
+        ensures symbols { self.new.buffer_symbols ≡ symbols.now }
         ensures disjoint { IfOk result (λ ok. ok ≡ are_groups_disjoint pairs.now.statements (images_of_names pairs.now.names (images_at symbols.now images.now)) (map (decode pairs.now.names) groups.now)) }
     {
         self.subject = Subject::grown(&self.subject, symbols);
@@ -150,7 +148,7 @@ impl DisjointCache {
     }
 
     /// Records the variables of a result, which is an expression with all images substituted, if it
-    /// has more than `LONG_RESULT` symbols. The result, in the range `place`, and the images are
+    /// has more than `LONG_RESULT` symbols. The result, in `result_range`, and the images are
     /// ranges of the buffer. Nothing is recorded if the first symbol of the expression has an
     /// image, or if the variables would take more than one word of bits for every 8 symbols.
     ///
@@ -164,29 +162,29 @@ impl DisjointCache {
         symbols: &Buffer,
         images: &ImageRanges,
         expr: &[u32],
-        place: SymbolRange,
+        result_range: SymbolRange,
     ) -> Result<(), AllocError>
         requires about { self.old.about ≡ pairs.now }
-        requires over { (more : List ℕ) × (symbols.now ≡ self.old.over ++ more) }
+        requires symbols { (more : List ℕ) × (symbols.now ≡ self.old.buffer_symbols ++ more) }
         requires named { AreOver pairs.now.names (images_at symbols.now images.now) }
         requires inside { AreInside (length symbols.now) images.now }
         requires below { AreBelow (length pairs.now.names) expr.now }
-        requires place { (place.start ≤ place.end) × (place.end ≤ length symbols.now) }
-        requires whole { symbols_in symbols.now place ≡ code_apply (images_at symbols.now images.now) expr.now }
+        requires range { (result_range.start ≤ result_range.end) × (result_range.end ≤ length symbols.now) }
+        requires whole { symbols_in symbols.now result_range ≡ code_apply (images_at symbols.now images.now) expr.now }
         ensures about { self.new.about ≡ self.old.about }
-        ensures over { (more : List ℕ) × (symbols.now ≡ self.new.over ++ more) }
+        ensures symbols { (more : List ℕ) × (symbols.now ≡ self.new.buffer_symbols ++ more) }
     {
-        if (place.end - place.start) as usize <= LONG_RESULT {
+        if (result_range.end - result_range.start) as usize <= LONG_RESULT {
             return Ok(());
         }
         self.subject = Subject::grown(&self.subject, symbols);
         let symbols = symbols.as_slice();
         self.tables
-            .record_result(pairs, symbols, images, expr, place)
+            .record_result(pairs, symbols, images, expr, result_range)
     }
 
     /// Records the variables of a result that is an expression as it is, such as that of a
-    /// hypothesis, under the same conditions as `record_result`. The result, in the range `place`,
+    /// hypothesis, under the same conditions as `record_result`. The result, in `result_range`,
     /// is a range of the buffer.
     ///
     /// Errors: an allocation fails. Cost: a constant if the result is not long, else the symbols of
@@ -197,21 +195,21 @@ impl DisjointCache {
         pairs: &Pairs<'_>,
         symbols: &Buffer,
         expr: &[u32],
-        place: SymbolRange,
+        result_range: SymbolRange,
     ) -> Result<(), AllocError>
         requires about { self.old.about ≡ pairs.now }
-        requires over { (more : List ℕ) × (symbols.now ≡ self.old.over ++ more) }
+        requires symbols { (more : List ℕ) × (symbols.now ≡ self.old.buffer_symbols ++ more) }
         requires below { AreBelow (length pairs.now.names) expr.now }
-        requires place { (place.start ≤ place.end) × (place.end ≤ length symbols.now) }
-        requires whole { symbols_in symbols.now place ≡ expr.now }
+        requires range { (result_range.start ≤ result_range.end) × (result_range.end ≤ length symbols.now) }
+        requires whole { symbols_in symbols.now result_range ≡ expr.now }
         ensures about { self.new.about ≡ self.old.about }
-        ensures over { (more : List ℕ) × (symbols.now ≡ self.new.over ++ more) }
+        ensures symbols { (more : List ℕ) × (symbols.now ≡ self.new.buffer_symbols ++ more) }
     {
         if expr.len() <= LONG_RESULT {
             return Ok(());
         }
         self.subject = Subject::grown(&self.subject, symbols);
         let symbols = symbols.as_slice();
-        self.tables.record_expr(pairs, symbols, expr, place)
+        self.tables.record_expr(pairs, symbols, expr, result_range)
     }
 }

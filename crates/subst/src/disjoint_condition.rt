@@ -23,21 +23,21 @@ pub fn disjoint(subst: &Subst, frame: &Frame, pairs: &Pairs<'_>) -> bool
     let groups = frame.groups();
     groups
         .iter()
-        .all(|group| group_disjoint(subst, pairs, group))
+        .all(|group| is_group_disjoint(subst, pairs, group))
 }
 
 /// Returns whether the images of each two of the variables are disjoint.
-fn group_disjoint(subst: &Subst, pairs: &Pairs<'_>, group: &Words) -> bool
+fn is_group_disjoint(subst: &Subst, pairs: &Pairs<'_>, group: &Words) -> bool
     requires { AreOver pairs.now.names subst.now }
     ensures { result ≡ is_group_disjoint pairs.now.statements (images_of_names pairs.now.names subst.now) group.now }
 {
     group
         .iter()
-        .all(|x| variable_disjoint(subst, pairs, x, group))
+        .all(|x| is_image_disjoint(subst, pairs, x, group))
 }
 
 /// Returns whether the image of x is disjoint from those of the other variables of the group.
-fn variable_disjoint(subst: &Subst, pairs: &Pairs<'_>, x: &[u8], group: &Words) -> bool
+fn is_image_disjoint(subst: &Subst, pairs: &Pairs<'_>, x: &[u8], group: &Words) -> bool
     requires { AreOver pairs.now.names subst.now }
     ensures { result ≡ is_image_disjoint pairs.now.statements (images_of_names pairs.now.names subst.now) group.now x.now (image (images_of_names pairs.now.names subst.now) x.now) }
 {
@@ -46,8 +46,8 @@ fn variable_disjoint(subst: &Subst, pairs: &Pairs<'_>, x: &[u8], group: &Words) 
         .all(|y| x == y || are_disjoint(subst, pairs, x, y))
 }
 
-/// Returns whether the images of two variables are disjoint. They are if one has no number: it is
-/// no variable there, and its image is itself.
+/// Returns whether the images of two variables are disjoint. They are disjoint if one variable has no
+/// number at the theorem: it is no variable there, and its image is itself.
 fn are_disjoint(subst: &Subst, pairs: &Pairs<'_>, x: &[u8], y: &[u8]) -> bool
     requires { AreOver pairs.now.names subst.now }
     ensures { result ≡ are_disjoint pairs.now.statements (image (images_of_names pairs.now.names subst.now) x.now) (image (images_of_names pairs.now.names subst.now) y.now) }

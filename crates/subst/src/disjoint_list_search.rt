@@ -1,11 +1,11 @@
 //! Finds one active `$d` that has all variables of two images.
 ghost use Rattle.std.specs.Prelude.{◌≡◌, ◌<◌, ◌≤◌, ◌⊎◌, ℕ, false, length, replicate, true, IfOk, IfSome, OnOk};
-ghost use Rattle.subst.specs.Stored.DisjointRows.{DecidesEach};
+ghost use Rattle.subst.specs.Stored.DisjointRows.{DecidesWordsAndWords};
 ghost use Rattle.subst.specs.Stored.PlaceSets.{ArePlacesBelow, HasBit, HasPlace};
-ghost use Rattle.subst.specs.Stored.SymbolMarks.{AreMarksOf, HasBoth, IsMarked, TakesMark, TakesPlaces};
+ghost use Rattle.subst.specs.Stored.SymbolMarks.{AreMarksOf, HasBoth, IsMarked, RemovesMark, RemovesMarksOfPlaces};
 ghost use Rattle.subst.specs.Stored.VariablePlaces.{ArePlaced};
 
-use crate::place_words::{PlaceWord, lowest, without};
+use crate::place_words::{PlaceWord, lowest_bit, without_bit};
 use crate::variable_places::VariablePlaces;
 use frame::Pairs;
 use std::alloc::{AllocError, Global};
@@ -31,13 +31,13 @@ impl DisjointListSearch {
     }
 
     /// Returns `true` only if one active `$d` has the variables at all places of `words` and of
-    /// `others`, and no variable is at places of both. `false` says nothing.
+    /// `others`, and no variable is at places of both. The answer `false` says nothing.
     ///
     /// Reads the `$d` that have the variable at the first place, from the last one back, as long as
     /// reading and marking them takes at most `steps` steps.
     ///
     /// Errors: an allocation fails. Cost: linear in `steps`.
-    pub(crate) fn are_in_one(
+    pub(crate) fn are_in_one_list(
         &mut self,
         pairs: &Pairs<'_>,
         variables: &VariablePlaces,
@@ -48,18 +48,18 @@ impl DisjointListSearch {
         requires placed { ArePlaced pairs.now variables.now }
         requires there { ArePlacesBelow (length variables.now.variables) words.now }
         requires others { ArePlacesBelow (length variables.now.variables) others.now }
-        ensures { IfOk result (λ ok. ok ≡ true → DecidesEach pairs.now variables.now words.now others.now true) }
+        ensures { IfOk result (λ ok. ok ≡ true → DecidesWordsAndWords pairs.now variables.now words.now others.now true) }
     {
         let Some(place) = first_place(words) else {
             return Ok(false);
         };
         let mut row = pairs.disjoints_with(variables.number(place));
-        let mut left = steps;
+        let mut steps_left = steps;
         while let Some(list) = row.next() {
-            let Some(taken) = marking_steps(list, left) else {
+            let Some(taken) = marking_steps(list, steps_left) else {
                 return Ok(false);
             };
-            left -= taken;
+            steps_left -= taken;
             if list_has_both(&mut self.marks, variables, list, words, others)? {
                 return Ok(true);
             }
@@ -74,7 +74,7 @@ fn first_place(words: &[PlaceWord]) -> Option<usize>
 {
     for word in words {
         if word.bits != 0 {
-            return Some(64 * word.index as usize + lowest(word.bits));
+            return Some(64 * word.index as usize + lowest_bit(word.bits));
         }
     }
     None
@@ -89,12 +89,14 @@ fn marking_steps(list: &[u32], most: usize) -> Option<usize>
     if list.len() > most {
         return None;
     }
-    let steps = list.len().saturating_add(highest(list) as usize / 64);
+    let steps = list
+        .len()
+        .saturating_add(greatest_symbol(list) as usize / 64);
     if steps > most { None } else { Some(steps) }
 }
 
 /// Returns the greatest symbol of a list, or 0 if it is empty.
-fn highest(list: &[u32]) -> u32 {
+fn greatest_symbol(list: &[u32]) -> u32 {
     let mut highest = 0;
     for symbol in list {
         highest = highest.max(*symbol);
@@ -130,7 +132,7 @@ fn list_has_both(
 fn mark_symbols(marks: &mut Vec<bool>, list: &[u32]) -> Result<(), AllocError>
     ensures { OnOk result (AreMarksOf (length list.now) list.now marks.new.items) }
 {
-    clear_marks(marks, highest(list) as usize + 1)?;
+    clear_marks(marks, greatest_symbol(list) as usize + 1)?;
     for symbol in list {
         mark(marks, *symbol as usize);
     }
@@ -161,7 +163,7 @@ fn mark(marks: &mut Vec<bool>, symbol: usize)
 /// Removes the mark of a symbol, and returns whether it had one.
 #[inline(always)]
 fn remove_mark(marks: &mut Vec<bool>, symbol: usize) -> bool
-    ensures { result ≡ true → TakesMark marks.old.items marks.new.items symbol }
+    ensures { result ≡ true → RemovesMark marks.old.items marks.new.items symbol }
 {
     if symbol >= marks.len() || !marks[symbol] {
         return false;
@@ -174,16 +176,16 @@ fn remove_mark(marks: &mut Vec<bool>, symbol: usize) -> bool
 #[inline(always)]
 fn remove_marks_of_word(marks: &mut Vec<bool>, variables: &VariablePlaces, word: PlaceWord) -> bool
     requires { (j : ℕ) → HasBit word j → j < length variables.now.variables }
-    ensures { result ≡ true → TakesPlaces variables.now (HasBit word) marks.old.items marks.new.items }
+    ensures { result ≡ true → RemovesMarksOfPlaces variables.now (HasBit word) marks.old.items marks.new.items }
 {
     let mut rest = word.bits;
     while rest != 0 {
-        let bit = lowest(rest);
+        let bit = lowest_bit(rest);
         let symbol = variables.number(64 * word.index as usize + bit);
         if !remove_mark(marks, symbol as usize) {
             return false;
         }
-        rest = without(rest, bit);
+        rest = without_bit(rest, bit);
     }
     true
 }
@@ -195,7 +197,7 @@ fn remove_marks_of_words(
     words: &[PlaceWord],
 ) -> bool
     requires { ArePlacesBelow (length variables.now.variables) words.now }
-    ensures { result ≡ true → TakesPlaces variables.now (HasPlace words.now) marks.old.items marks.new.items }
+    ensures { result ≡ true → RemovesMarksOfPlaces variables.now (HasPlace words.now) marks.old.items marks.new.items }
 {
     for word in words {
         if !remove_marks_of_word(marks, variables, *word) {

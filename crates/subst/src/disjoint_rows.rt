@@ -2,26 +2,26 @@
 ghost use Rattle.std.specs.Prelude.{◌≡◌, ℕ, ◌+◌, ◌*◌, ◌<◌, [], length, true, IfOk, IfSome};
 ghost use Rattle.std.specs.Int.{bit_at};
 ghost use Rattle.frame.specs.Below.{AreBelow};
-ghost use Rattle.subst.specs.Stored.DisjointRows.{AreFacts, ArePairs, HasFact, IsRowAt, RecordsWord, DecidesAll, DecidesBits, DecidesEach, DecidesWord};
-ghost use Rattle.subst.specs.Stored.PlaceSets.{ArePlacesBelow, HasBit, near_word};
+ghost use Rattle.subst.specs.Stored.DisjointRows.{AreFacts, ArePairs, HasFact, IsRowWordAt, RecordsWord, DecidesPlaceAndWords, DecidesWordAndWords, DecidesWordsAndWords, DecidesPlaceAndWord};
+ghost use Rattle.subst.specs.Stored.PlaceSets.{ArePlacesBelow, HasBit, first_word};
 ghost use Rattle.subst.specs.Stored.VariablePlaces.{ArePlaced, Grows};
 
 use crate::disjoint_list_search::DisjointListSearch;
 use crate::hints::Hints;
-use crate::place_words::{PlaceWord, costly_steps, lowest, without};
+use crate::place_words::{PlaceWord, costly_steps, lowest_bit, without_bit};
 use crate::variable_places::VariablePlaces;
 use frame::{Frames, PairMemo, Pairs};
 use std::alloc::{AllocError, Global};
 use std::marker::Model;
 
-/// The number of places of which facts are recorded.
+/// Facts are recorded of places below this.
 const RECORDED_PLACES: u32 = 8192;
 
-/// How many of the last active `$d` are read in a proof before any pair is looked up.
-const READ_LISTS: usize = 16;
+/// How many of the last active `$d` are recorded in a proof before any pair is looked up.
+const LAST_LISTS: usize = 16;
 
-/// The most symbols of a `$d` that is read.
-const READ_SYMBOLS: usize = 16;
+/// The most symbols of a `$d` that is recorded.
+const MAX_LIST_SYMBOLS: usize = 16;
 
 /// Some of 64 places, whose variables were found to be disjoint from the variable at one place. A
 /// place is the index of a variable in `VariablePlaces`.
@@ -35,10 +35,11 @@ pub struct RowWord {
     bits: u64,
 }
 
-/// The pairs of variables of a proof that were found to be disjoint, as words of bits. A bit that is set is a fact; one that
-/// is not set says nothing.
+/// The pairs of variables of a proof that were found to be disjoint. The row of a place has a bit for each place that was found
+/// to be disjoint from it, in words of 64 bits. A bit that is set is a fact; one that is not set says nothing.
 ///
-/// A hint says where in the list a word may be. At most 24 MB are used: variables beyond the first 8,192 are not recorded.
+/// A hint says where in the list a word may be. Words and hints take at most 24 MB, since variables beyond the first 8,192 are
+/// not recorded.
 #[derive(Drop)]
 pub struct DisjointRows {
     /// The index that a word may have in `words`.
@@ -46,7 +47,7 @@ pub struct DisjointRows {
     /// The facts.
     words: Vec<RowWord>,
     /// Whether the last active `$d` were read in this proof.
-    has_read_active: bool,
+    has_read_last_lists: bool,
     /// The pairs that long searches found, in all proofs. It is not cleared.
     memo: PairMemo,
     /// Looks for one `$d` that has all variables of two images.
@@ -70,7 +71,7 @@ impl DisjointRows {
         DisjointRows {
             hints: Hints::new(alloc),
             words: Vec::new(alloc),
-            has_read_active: false,
+            has_read_last_lists: false,
             memo: PairMemo::new(alloc),
             disjoint_list_search: DisjointListSearch::new(alloc),
         }
@@ -81,7 +82,7 @@ impl DisjointRows {
         ensures { self.new ≡ [] }
     {
         self.words.clear();
-        self.has_read_active = false;
+        self.has_read_last_lists = false;
     }
 
     /// Removes all facts, and frees the memory of the marks.
@@ -89,11 +90,11 @@ impl DisjointRows {
         ensures { self.new ≡ [] }
     {
         self.words.clear();
-        self.has_read_active = false;
+        self.has_read_last_lists = false;
         self.disjoint_list_search.release(alloc);
     }
 
-    /// Has the frames make long searches for pairs again, as `PairMemo::repeat_searches` does.
+    /// Repeats long searches for pairs in the frames, as `PairMemo::repeat_searches` does.
     pub fn repeat_searches(&mut self, frames: &mut Frames)
         ensures facts { self.new ≡ self.old }
         ensures frames { frames.new ≡ frames.old }
@@ -105,7 +106,7 @@ impl DisjointRows {
     /// there is one.
     #[inline(always)]
     fn find(&self, place: usize, index: u32) -> Option<usize>
-        ensures { IfSome result (IsRowAt self.now place index) }
+        ensures { IfSome result (IsRowWordAt self.now place index) }
     {
         let at = self.hints.get(hint_number(place, index) as usize);
         match self.words.get(at) {
@@ -150,13 +151,13 @@ impl DisjointRows {
         Ok(())
     }
 
-    /// Reads the last active `$d`, once in a proof, and records that the variables of each are
-    /// disjoint, as far as their places are below 64.
+    /// Records, once in a proof, that the variables of each of the last active `$d` are disjoint, as
+    /// far as their places are below 64.
     ///
     /// Errors: an allocation fails. Cost: a constant: at most 16 `$d` of at most 16 symbols are
     /// read.
     #[inline(always)]
-    pub fn read_active(
+    pub fn read_last_lists_once(
         &mut self,
         pairs: &Pairs<'_>,
         variables: &mut VariablePlaces,
@@ -167,17 +168,17 @@ impl DisjointRows {
         ensures grows { Grows variables.old variables.new }
         ensures facts { AreFacts pairs.now variables.new self.new }
     {
-        if self.has_read_active {
+        if self.has_read_last_lists {
             return Ok(());
         }
-        self.has_read_active = true;
-        self.read_last_active(pairs, variables)
+        self.has_read_last_lists = true;
+        self.read_last_lists(pairs, variables)
     }
 
-    /// Reads the last active `$d`.
+    /// Records that the variables of each of the last active `$d` are disjoint.
     #[cold]
     #[inline(never)]
-    fn read_last_active(
+    fn read_last_lists(
         &mut self,
         pairs: &Pairs<'_>,
         variables: &mut VariablePlaces,
@@ -189,11 +190,11 @@ impl DisjointRows {
         ensures facts { AreFacts pairs.now variables.new self.new }
     {
         let mut before = pairs.copy();
-        let mut left = READ_LISTS;
+        let mut lists_left = LAST_LISTS;
         while let Some(list) = before.pop_disjoint() {
-            self.read_active_list(pairs, variables, list)?;
-            left = left.saturating_sub(1);
-            if left == 0 {
+            self.record_list(pairs, variables, list)?;
+            lists_left = lists_left.saturating_sub(1);
+            if lists_left == 0 {
                 return Ok(());
             }
         }
@@ -201,7 +202,7 @@ impl DisjointRows {
     }
 
     /// Records that the variables of an active `$d` are disjoint.
-    fn read_active_list(
+    fn record_list(
         &mut self,
         pairs: &Pairs<'_>,
         variables: &mut VariablePlaces,
@@ -215,17 +216,17 @@ impl DisjointRows {
         ensures grows { Grows variables.old variables.new }
         ensures facts { AreFacts pairs.now variables.new self.new }
     {
-        if list.len() > READ_SYMBOLS {
+        if list.len() > MAX_LIST_SYMBOLS {
             return Ok(());
         }
-        let listed = variables.near_bits_of_list(pairs, list)?;
+        let listed = variables.first_word_bits_of_list(pairs, list)?;
         let mut rest = listed;
         while rest != 0 {
-            let bit = lowest(rest);
+            let bit = lowest_bit(rest);
             let index = 0;
-            let bits = without(listed, bit);
+            let bits = without_bit(listed, bit);
             self.record_word(bit, PlaceWord { index, bits })?;
-            rest = without(rest, bit);
+            rest = without_bit(rest, bit);
         }
         Ok(())
     }
@@ -245,7 +246,7 @@ impl DisjointRows {
         requires there { place < length variables.now.variables }
         requires others { (b : ℕ) → bit_at word.bits b ≡ 1 → 64 * word.index + b < length variables.now.variables }
         ensures facts { AreFacts pairs.now variables.now self.new }
-        ensures decides { IfOk result (DecidesWord pairs.now variables.now place word) }
+        ensures decides { IfOk result (DecidesPlaceAndWord pairs.now variables.now place word) }
     {
         if !are_pairs(pairs, variables, &mut self.memo, place, word) {
             return Ok(false);
@@ -258,19 +259,19 @@ impl DisjointRows {
     ///
     /// Cost: a step for each place of the first word.
     #[inline(always)]
-    pub fn are_found(&self, bits: u64, others: u64) -> bool
-        ensures { result ≡ true → (p q : ℕ) → HasBit (near_word bits) p → HasBit (near_word others) q → HasFact self.now p q }
+    pub fn are_known_disjoint(&self, bits: u64, others: u64) -> bool
+        ensures { result ≡ true → (p q : ℕ) → HasBit (first_word bits) p → HasBit (first_word others) q → HasFact self.now p q }
     {
         if others == 0 {
             return true;
         }
         let mut rest = bits;
         while rest != 0 {
-            let bit = lowest(rest);
+            let bit = lowest_bit(rest);
             if others & !self.bits(bit, 0) != 0 {
                 return false;
             }
-            rest = without(rest, bit);
+            rest = without_bit(rest, bit);
         }
         true
     }
@@ -293,7 +294,7 @@ impl DisjointRows {
         requires there { place < length variables.now.variables }
         requires others { ArePlacesBelow (length variables.now.variables) others.now }
         ensures facts { AreFacts pairs.now variables.now self.new }
-        ensures decides { IfOk result (DecidesAll pairs.now variables.now place others.now) }
+        ensures decides { IfOk result (DecidesPlaceAndWords pairs.now variables.now place others.now) }
     {
         for word in others {
             let index = word.index;
@@ -319,16 +320,16 @@ impl DisjointRows {
         requires there { (j : ℕ) → HasBit word j → j < length variables.now.variables }
         requires others { ArePlacesBelow (length variables.now.variables) others.now }
         ensures facts { AreFacts pairs.now variables.now self.new }
-        ensures decides { IfOk result (DecidesBits pairs.now variables.now word others.now) }
+        ensures decides { IfOk result (DecidesWordAndWords pairs.now variables.now word others.now) }
     {
         let mut rest = word.bits;
         while rest != 0 {
-            let bit = lowest(rest);
+            let bit = lowest_bit(rest);
             let place = 64 * word.index as usize + bit;
             if !self.is_disjoint(pairs, variables, place, others)? {
                 return Ok(false);
             }
-            rest = without(rest, bit);
+            rest = without_bit(rest, bit);
         }
         Ok(true)
     }
@@ -348,7 +349,7 @@ impl DisjointRows {
         requires there { ArePlacesBelow (length variables.now.variables) words.now }
         requires others { ArePlacesBelow (length variables.now.variables) others.now }
         ensures facts { AreFacts pairs.now variables.now self.new }
-        ensures decides { IfOk result (DecidesEach pairs.now variables.now words.now others.now) }
+        ensures decides { IfOk result (DecidesWordsAndWords pairs.now variables.now words.now others.now) }
     {
         for word in words {
             if !self.is_word_disjoint(pairs, variables, *word, others)? {
@@ -377,14 +378,14 @@ impl DisjointRows {
         requires there { ArePlacesBelow (length variables.now.variables) words.now }
         requires others { ArePlacesBelow (length variables.now.variables) others.now }
         ensures facts { AreFacts pairs.now variables.now self.new }
-        ensures decides { IfOk result (DecidesEach pairs.now variables.now words.now others.now) }
+        ensures decides { IfOk result (DecidesWordsAndWords pairs.now variables.now words.now others.now) }
     {
         let Some(steps) = costly_steps(words, others.len()) else {
             return self.are_disjoint(pairs, variables, words, others);
         };
         if self
             .disjoint_list_search
-            .are_in_one(pairs, variables, words, others, steps)?
+            .are_in_one_list(pairs, variables, words, others, steps)?
         {
             return Ok(true);
         }
@@ -405,17 +406,17 @@ fn are_pairs(
     requires placed { ArePlaced pairs.now variables.now }
     requires there { place < length variables.now.variables }
     requires others { (b : ℕ) → bit_at word.bits b ≡ 1 → 64 * word.index + b < length variables.now.variables }
-    ensures { DecidesWord pairs.now variables.now place word result }
+    ensures { DecidesPlaceAndWord pairs.now variables.now place word result }
 {
     let x = variables.number(place);
     let mut rest = word.bits;
     while rest != 0 {
-        let bit = lowest(rest);
+        let bit = lowest_bit(rest);
         let y = variables.number(64 * word.index as usize + bit);
         if !pairs.has_by_memo(memo, x, y) {
             return false;
         }
-        rest = without(rest, bit);
+        rest = without_bit(rest, bit);
     }
     true
 }

@@ -8,7 +8,7 @@ ghost use Rattle.subst.specs.DisjointImages.{are_numbers_disjoint, image_named, 
 ghost use Rattle.subst.specs.Images.{AreOver};
 ghost use Rattle.subst.specs.SymbolRanges.{AreInside, images_at, symbols_in};
 ghost use Rattle.subst.specs.Stored.DisjointTables.{AreTables, are_named_disjoint};
-ghost use Rattle.subst.specs.Stored.ImageVariables.{AreRead};
+ghost use Rattle.subst.specs.Stored.ImageVariables.{AreReadImages};
 ghost use Rattle.subst.specs.Stored.VariablePlaces.{Grows};
 
 use crate::disjoint_rows::DisjointRows;
@@ -33,9 +33,9 @@ pub struct DisjointTables {
     /// The pairs of variables that were found to be disjoint.
     rows: DisjointRows,
     /// The variables of the earlier images of a group.
-    before: PlaceSet,
+    earlier_places: PlaceSet,
     /// The pairs of images that were found to be disjoint.
-    found: ImagePairs,
+    image_pairs: ImagePairs,
 }
 
 impl DisjointTables {
@@ -47,8 +47,8 @@ impl DisjointTables {
             variables: VariablePlaces::new(alloc),
             images: ImageVariables::new(alloc),
             rows: DisjointRows::new(alloc),
-            before: PlaceSet::new(alloc),
-            found: ImagePairs::new(alloc),
+            earlier_places: PlaceSet::new(alloc),
+            image_pairs: ImagePairs::new(alloc),
         }
     }
 
@@ -61,7 +61,7 @@ impl DisjointTables {
         self.variables.clear();
         self.images.clear();
         self.rows.clear();
-        self.found.clear();
+        self.image_pairs.clear();
     }
 
     /// Empties the tables, and frees the memory of images, of pairs of images and of the marks of
@@ -72,10 +72,10 @@ impl DisjointTables {
         self.variables.clear();
         self.images.release(alloc);
         self.rows.release(alloc);
-        self.found.release(alloc);
+        self.image_pairs.release(alloc);
     }
 
-    /// Has the frames make long searches for pairs again, as `PairMemo::repeat_searches` does.
+    /// Repeats long searches for pairs in the frames, as `PairMemo::repeat_searches` does.
     pub fn repeat_searches(&mut self, frames: &mut Frames)
         ensures tables { self.new ≡ self.old }
         ensures frames { frames.new ≡ frames.old }
@@ -96,15 +96,15 @@ impl DisjointTables {
         second: u32,
     ) -> Result<bool, AllocError>
         requires tables { AreTables pairs.now symbols.now self.old }
-        requires read { AreRead pairs.now self.old.variables symbols.now images.now self.old.images }
+        requires read { AreReadImages pairs.now self.old.variables symbols.now images.now self.old.images }
         requires named { AreOver pairs.now.names (images_at symbols.now images.now) }
         requires inside { AreInside (length symbols.now) images.now }
         requires first { first < length pairs.now.names }
         requires second { second < length pairs.now.names }
         ensures tables { AreTables pairs.now symbols.now self.new }
-        ensures read { AreRead pairs.now self.new.variables symbols.now images.now self.new.images }
+        ensures read { AreReadImages pairs.now self.new.variables symbols.now images.now self.new.images }
         ensures grows { Grows self.old.variables self.new.variables }
-        ensures before { self.new.before ≡ self.old.before }
+        ensures earlier_places { self.new.earlier_places ≡ self.old.earlier_places }
         ensures disjoint { IfOk result (λ ok. ok ≡ are_named_disjoint pairs.now symbols.now images.now first second) }
     {
         let one = self
@@ -119,13 +119,12 @@ impl DisjointTables {
             .are_many_disjoint(pairs, &self.variables, words, others)
     }
 
-    /// Returns whether the images of two variables are disjoint. A recorded pair of images is not
-    /// compared again; a pair that is found to be disjoint is recorded for the proof, if both
-    /// images are ranges.
+    /// Returns whether the images of two variables are disjoint. Does not compare a recorded pair of
+    /// images again. Records a pair that is found to be disjoint, if both images are ranges.
     ///
     /// Errors: an allocation fails. Cost: log n for n recorded pairs; that of `are_disjoint` if
     /// this one is not recorded.
-    fn are_found_disjoint(
+    fn are_disjoint_by_record(
         &mut self,
         pairs: &Pairs<'_>,
         symbols: &[u32],
@@ -134,33 +133,33 @@ impl DisjointTables {
         second: u32,
     ) -> Result<bool, AllocError>
         requires tables { AreTables pairs.now symbols.now self.old }
-        requires read { AreRead pairs.now self.old.variables symbols.now images.now self.old.images }
+        requires read { AreReadImages pairs.now self.old.variables symbols.now images.now self.old.images }
         requires named { AreOver pairs.now.names (images_at symbols.now images.now) }
         requires inside { AreInside (length symbols.now) images.now }
         requires first { first < length pairs.now.names }
         requires second { second < length pairs.now.names }
         ensures tables { AreTables pairs.now symbols.now self.new }
-        ensures read { AreRead pairs.now self.new.variables symbols.now images.now self.new.images }
+        ensures read { AreReadImages pairs.now self.new.variables symbols.now images.now self.new.images }
         ensures grows { Grows self.old.variables self.new.variables }
-        ensures before { self.new.before ≡ self.old.before }
+        ensures earlier_places { self.new.earlier_places ≡ self.old.earlier_places }
         ensures disjoint { IfOk result (λ ok. ok ≡ are_named_disjoint pairs.now symbols.now images.now first second) }
     {
         let Some(pair) = ImagePair::of(images, first, second) else {
             return self.are_disjoint(pairs, symbols, images, first, second);
         };
-        if self.found.has(pair) {
+        if self.image_pairs.has(pair) {
             return Ok(true);
         }
         if !self.are_disjoint(pairs, symbols, images, first, second)? {
             return Ok(false);
         }
-        self.found.record_pair(pair);
+        self.image_pairs.record_pair(pair);
         Ok(true)
     }
 
     /// Returns whether the image of a variable is disjoint from those of the others in a list.
     ///
-    /// Errors: an allocation fails. Cost: that of `are_found_disjoint` for each of them.
+    /// Errors: an allocation fails. Cost: that of `are_disjoint_by_record` for each of them.
     #[cold]
     #[inline(never)]
     fn is_disjoint(
@@ -172,22 +171,22 @@ impl DisjointTables {
         number: u32,
     ) -> Result<bool, AllocError>
         requires tables { AreTables pairs.now symbols.now self.old }
-        requires read { AreRead pairs.now self.old.variables symbols.now images.now self.old.images }
+        requires read { AreReadImages pairs.now self.old.variables symbols.now images.now self.old.images }
         requires named { AreOver pairs.now.names (images_at symbols.now images.now) }
         requires inside { AreInside (length symbols.now) images.now }
         requires below { AreBelow (length pairs.now.names) list.now }
         requires number { number < length pairs.now.names }
         ensures tables { AreTables pairs.now symbols.now self.new }
-        ensures read { AreRead pairs.now self.new.variables symbols.now images.now self.new.images }
+        ensures read { AreReadImages pairs.now self.new.variables symbols.now images.now self.new.images }
         ensures grows { Grows self.old.variables self.new.variables }
-        ensures before { self.new.before ≡ self.old.before }
+        ensures earlier_places { self.new.earlier_places ≡ self.old.earlier_places }
         ensures disjoint { IfOk result (λ ok. ok ≡ is_number_disjoint pairs.now.statements (image_named pairs.now.names (images_at symbols.now images.now)) list.now number) }
     {
         for other in list {
             if *other == number {
                 continue;
             }
-            if !self.are_found_disjoint(pairs, symbols, images, number, *other)? {
+            if !self.are_disjoint_by_record(pairs, symbols, images, number, *other)? {
                 return Ok(false);
             }
         }
@@ -196,8 +195,8 @@ impl DisjointTables {
 
     /// Returns whether the images of each two variables of a group are disjoint.
     ///
-    /// Compares each image with the variables of all images before it at once; if that costs much,
-    /// with each of these images in turn. Whether a variable is in the group twice is looked up
+    /// Compares each image with the variables of all images before it at once or, if that costs
+    /// much, with each of these images in turn. Looks up whether a variable is in the group twice
     /// only if its image is not disjoint from the earlier ones.
     #[cold]
     #[inline(never)]
@@ -209,30 +208,32 @@ impl DisjointTables {
         group: &[u32],
     ) -> Result<bool, AllocError>
         requires tables { AreTables pairs.now symbols.now self.old }
-        requires read { AreRead pairs.now self.old.variables symbols.now images.now self.old.images }
+        requires read { AreReadImages pairs.now self.old.variables symbols.now images.now self.old.images }
         requires named { AreOver pairs.now.names (images_at symbols.now images.now) }
         requires inside { AreInside (length symbols.now) images.now }
         requires below { AreBelow (length pairs.now.names) group.now }
         ensures tables { AreTables pairs.now symbols.now self.new }
-        ensures read { AreRead pairs.now self.new.variables symbols.now images.now self.new.images }
+        ensures read { AreReadImages pairs.now self.new.variables symbols.now images.now self.new.images }
         ensures disjoint { IfOk result (λ ok. ok ≡ are_numbers_disjoint pairs.now.statements (image_named pairs.now.names (images_at symbols.now images.now)) group.now) }
     {
-        self.before.clear();
+        self.earlier_places.clear();
         for (index, k) in group.iter().enumerate() {
             let range = self
                 .images
                 .image_of(pairs, &mut self.variables, symbols, images, *k)?;
             let words = self.images.words_in(range);
-            if is_costly(words, self.before.as_slice().len(), index) {
-                self.before.add_words(words)?;
+            if is_costly(words, self.earlier_places.as_slice().len(), index) {
+                self.earlier_places.add_words(words)?;
                 if !self.is_disjoint(pairs, symbols, images, &group[..index], *k)? {
                     return Ok(false);
                 }
-            } else if self
-                .rows
-                .are_disjoint(pairs, &self.variables, words, self.before.as_slice())?
-            {
-                self.before.add_words(words)?;
+            } else if self.rows.are_disjoint(
+                pairs,
+                &self.variables,
+                words,
+                self.earlier_places.as_slice(),
+            )? {
+                self.earlier_places.add_words(words)?;
             } else if !contains(&group[..index], *k) {
                 return Ok(false);
             }
@@ -241,12 +242,12 @@ impl DisjointTables {
     }
 
     /// Returns `true` only if all variables of the images of a group have places below 64, and the images of each two were
-    /// found to be disjoint. This decides most groups.
+    /// found to be disjoint.
     ///
     /// Errors: an allocation fails. Cost: the images that were not read in this citation, and a step for each variable of
     /// each image.
     #[inline(always)]
-    fn is_group_found(
+    fn is_group_known_disjoint(
         &mut self,
         pairs: &Pairs<'_>,
         symbols: &[u32],
@@ -254,12 +255,12 @@ impl DisjointTables {
         group: &[u32],
     ) -> Result<bool, AllocError>
         requires tables { AreTables pairs.now symbols.now self.old }
-        requires read { AreRead pairs.now self.old.variables symbols.now images.now self.old.images }
+        requires read { AreReadImages pairs.now self.old.variables symbols.now images.now self.old.images }
         requires named { AreOver pairs.now.names (images_at symbols.now images.now) }
         requires inside { AreInside (length symbols.now) images.now }
         requires below { AreBelow (length pairs.now.names) group.now }
         ensures tables { AreTables pairs.now symbols.now self.new }
-        ensures read { AreRead pairs.now self.new.variables symbols.now images.now self.new.images }
+        ensures read { AreReadImages pairs.now self.new.variables symbols.now images.now self.new.images }
         ensures disjoint { IfOk result (λ ok. ok ≡ true → are_numbers_disjoint pairs.now.statements (image_named pairs.now.names (images_at symbols.now images.now)) group.now ≡ true) }
     {
         let mut before = 0;
@@ -267,10 +268,10 @@ impl DisjointTables {
             let range = self
                 .images
                 .image_of(pairs, &mut self.variables, symbols, images, *k)?;
-            let Some(bits) = self.images.near_bits(range) else {
+            let Some(bits) = self.images.first_word_bits(range) else {
                 return Ok(false);
             };
-            if !self.rows.are_found(bits, before) {
+            if !self.rows.are_known_disjoint(bits, before) {
                 return Ok(false);
             }
             before |= bits;
@@ -294,14 +295,14 @@ impl DisjointTables {
         ensures tables { AreTables pairs.now symbols.now self.new }
         ensures disjoint { IfOk result (λ ok. ok ≡ list_all (are_numbers_disjoint pairs.now.statements (image_named pairs.now.names (images_at symbols.now images.now))) groups.now) }
     {
-        self.rows.read_active(pairs, &mut self.variables)?;
-        self.images.begin();
+        self.rows.read_last_lists_once(pairs, &mut self.variables)?;
+        self.images.begin_citation();
         for i in 0..groups.len() {
             if is_repeated(groups, i) {
                 continue;
             }
             let group = groups.get(i);
-            if self.is_group_found(pairs, symbols, images, group)? {
+            if self.is_group_known_disjoint(pairs, symbols, images, group)? {
                 continue;
             }
             if !self.is_group_disjoint(pairs, symbols, images, group)? {
@@ -334,7 +335,7 @@ impl DisjointTables {
         if expr.is_empty() || images.get(expr[0]).is_some() {
             return Ok(());
         }
-        self.images.begin();
+        self.images.begin_citation();
         let rest = &expr[1..];
         for (index, symbol) in rest.iter().enumerate() {
             if self.images.occurs_earlier(rest, index)? {
@@ -344,7 +345,7 @@ impl DisjointTables {
             self.images
                 .add_image(pairs, variables, symbols, images, *symbol)?;
         }
-        self.images.record_image(without_first(result_range))
+        self.images.record_long_image(without_first(result_range))
     }
 
     /// Records the variables of a long result that is an expression as it is, such as a hypothesis.
@@ -364,21 +365,21 @@ impl DisjointTables {
         if expr.is_empty() {
             return Ok(());
         }
-        self.images.begin();
+        self.images.begin_citation();
         self.images
             .add_symbols(pairs, &mut self.variables, &expr[1..])?;
-        self.images.record_image(without_first(result_range))
+        self.images.record_long_image(without_first(result_range))
     }
 }
 
 /// Returns whether it takes many steps to compare the variables at the places of `words` with those
-/// at the places of `others` other words, which belong to `images` images: at least 256 steps, and
-/// at least 64 for each of these images.
+/// at the places of `other_words` other words, which belong to `image_count` images: at least 256
+/// steps, and at least 64 for each of these images.
 ///
 /// Cost: the words, if there are many of both.
-fn is_costly(words: &[PlaceWord], others: usize, images: usize) -> bool {
-    match costly_steps(words, others) {
-        Some(steps) => steps / 64 >= images,
+fn is_costly(words: &[PlaceWord], other_words: usize, image_count: usize) -> bool {
+    match costly_steps(words, other_words) {
+        Some(steps) => steps / 64 >= image_count,
         None => false,
     }
 }

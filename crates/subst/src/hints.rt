@@ -1,11 +1,11 @@
-//! Guesses at the position of an item in a list.
+//! Guesses at the index of an item in a list.
 ghost use Rattle.std.specs.Prelude.{◌<◌, ◌^◌};
 
 use std::alloc::{AllocError, Global};
 
-/// Guesses, by number, at the position of an item in a list. A guess may be wrong, so the caller
-/// always checks the list. So guesses need not be cleared with the list, which is then emptied in
-/// constant time.
+/// Guesses, by number, at the index of an item in a list. A guess may be wrong, so the caller
+/// always checks the list. Guesses therefore stay when the list is emptied, which takes constant
+/// time.
 #[derive(Drop)]
 pub(crate) struct Hints {
     guesses: Vec<u32>,
@@ -35,8 +35,8 @@ impl Hints {
     pub(crate) fn set(&mut self, number: u32, guess: usize) -> Result<(), AllocError> {
         let guess = u32::try_from(guess).unwrap_or(0);
         match self.guesses.get_mut(number as usize) {
-            Some(place) => {
-                *place = guess;
+            Some(entry) => {
+                *entry = guess;
                 Ok(())
             }
             None => self.add(number as usize, guess),

@@ -38,7 +38,7 @@ impl ImagePair {
 #[derive(Drop)]
 pub struct ImagePairs {
     /// By the starts of two images, the index in `pairs` that they may have.
-    places: BTreeMap<u64, u32>,
+    indexes: BTreeMap<u64, u32>,
     /// The pairs, in the order in which they were recorded.
     pairs: Vec<ImagePair>,
 }
@@ -58,7 +58,7 @@ impl ImagePairs {
         ensures { result ≡ [] }
     {
         ImagePairs {
-            places: BTreeMap::new(alloc),
+            indexes: BTreeMap::new(alloc),
             pairs: Vec::new(alloc),
         }
     }
@@ -69,7 +69,7 @@ impl ImagePairs {
     pub fn clear(&mut self)
         ensures { self.new ≡ [] }
     {
-        self.places.clear();
+        self.indexes.clear();
         self.pairs.clear();
     }
 
@@ -77,7 +77,7 @@ impl ImagePairs {
     pub fn release(&mut self, alloc: Global)
         ensures { self.new ≡ [] }
     {
-        self.places.clear();
+        self.indexes.clear();
         self.pairs = Vec::new(alloc);
     }
 
@@ -87,10 +87,10 @@ impl ImagePairs {
     pub fn has(&self, pair: ImagePair) -> bool
         ensures { result ≡ true → Contains self.now pair }
     {
-        let Some(place) = self.places.get(&key(pair)) else {
+        let Some(index) = self.indexes.get(&key(pair)) else {
             return false;
         };
-        match self.pairs.get(*place as usize) {
+        match self.pairs.get(*index as usize) {
             Some(recorded) => is_same(recorded.left, pair.left)
                 && is_same(recorded.right, pair.right),
             None => false,
@@ -104,11 +104,11 @@ impl ImagePairs {
     pub fn record_pair(&mut self, pair: ImagePair)
         ensures { RecordsPair self.old self.new pair }
     {
-        let place = self.pairs.len();
-        if place >= MAX_PAIRS || self.pairs.push(pair).is_err() {
+        let index = self.pairs.len();
+        if index >= MAX_PAIRS || self.pairs.push(pair).is_err() {
             return;
         }
-        let _recorded = self.places.insert(key(pair), place as u32);
+        let _recorded = self.indexes.insert(key(pair), index as u32);
     }
 }
 

@@ -11,29 +11,29 @@ use std::marker::Model;
 const NO_ROUND: u32 = 0;
 
 /// The range of a symbol that has no image.
-const NO_PLACE: SymbolRange = SymbolRange { start: 0, end: 0 };
+const NO_RANGE: SymbolRange = SymbolRange { start: 0, end: 0 };
 
-/// A table that grows to have an index gets twice that length and this many more, so that it
-/// usually has the indexes of constants too.
+/// A table that grows for an index gets twice that length and this many more entries, so that it
+/// seldom grows again.
 const SPARE: usize = 1024;
 
 /// A read-only view of the lists of an `ImageRanges`, which a loop keeps in registers.
 #[derive(Drop)]
 pub(crate) struct ImageTable<'a> {
     rounds: &'a [u32],
-    places: &'a [SymbolRange],
+    ranges: &'a [SymbolRange],
     round: u32,
 }
 
 impl<'a> Model for ImageTable<'a> {
     ghost use Rattle.std.specs.Prelude.{ℕ, ◌≤◌, List, length};
-    ghost use Rattle.subst.{specs.declared.symbol_range.SymbolRange.SymbolRange, specs.Stored.ImageTables.placed};
+    ghost use Rattle.subst.{specs.declared.symbol_range.SymbolRange.SymbolRange, specs.Stored.ImageTables.images_in_round};
 
     ghost Value = { List (ℕ × SymbolRange) };
 
-    ghost view = { λ a. placed a.round 0 a.rounds.now a.places.now };
+    ghost view = { λ a. images_in_round a.round 0 a.rounds.now a.ranges.now };
 
-    ghost invariant = { λ a. length a.rounds.now ≤ length a.places.now };
+    ghost invariant = { λ a. length a.rounds.now ≤ length a.ranges.now };
 }
 
 impl<'a> ImageTable<'a> {
@@ -43,18 +43,18 @@ impl<'a> ImageTable<'a> {
         ensures { result ≡ lookup (nat_eq symbol) self.now }
     {
         match self.rounds.get(symbol as usize) {
-            Some(round) if *round == self.round => Some(self.places[symbol as usize]),
+            Some(round) if *round == self.round => Some(self.ranges[symbol as usize]),
             _ => None,
         }
     }
 }
 
-/// A table of the images of symbols, each a range of a buffer that is kept elsewhere. Contracts see
-/// the symbols with their ranges.
+/// A table of the images of symbols, each a range of a buffer that the table does not own.
+/// Contracts see the symbols with their ranges.
 ///
 /// Removing all images begins a new round: an image counts only if it was set in the current round.
-/// Rounds and ranges are two lists, since most look-ups are of constants, which need the round
-/// alone.
+/// Rounds and ranges are two lists, since a look-up of a symbol without an image, such as a
+/// constant, needs the round alone.
 ///
 /// Cost: finding an image and removing all take constant time; so does setting one, unless the
 /// table grows. The table is about twice as long as the greatest symbol number that was set.
@@ -63,21 +63,21 @@ pub struct ImageRanges {
     /// The round in which the image of a symbol was set, by its number.
     rounds: Vec<u32>,
     /// The range of the image of a symbol, by its number.
-    places: Vec<SymbolRange>,
+    ranges: Vec<SymbolRange>,
     /// The current round.
     round: u32,
 }
 
 impl Model for ImageRanges {
     ghost use Rattle.std.specs.Prelude.{ℕ, ◌≤◌, List, length};
-    ghost use Rattle.subst.specs.Stored.ImageTables.{AreUpTo, placed};
+    ghost use Rattle.subst.specs.Stored.ImageTables.{AreUpTo, images_in_round};
     ghost use Rattle.subst.specs.declared.symbol_range.SymbolRange.{SymbolRange};
 
     ghost Value = { List (ℕ × SymbolRange) };
 
-    ghost view = { λ a. placed a.round 0 a.rounds.items a.places.items };
+    ghost view = { λ a. images_in_round a.round 0 a.rounds.items a.ranges.items };
 
-    ghost invariant = { λ a. (1 ≤ a.round) × AreUpTo a.round a.rounds.items × (length a.rounds.items ≤ length a.places.items) };
+    ghost invariant = { λ a. (1 ≤ a.round) × AreUpTo a.round a.rounds.items × (length a.rounds.items ≤ length a.ranges.items) };
 }
 
 impl ImageRanges {
@@ -87,7 +87,7 @@ impl ImageRanges {
     {
         ImageRanges {
             rounds: Vec::new(alloc),
-            places: Vec::new(alloc),
+            ranges: Vec::new(alloc),
             round: 1,
         }
     }
@@ -109,15 +109,15 @@ impl ImageRanges {
     /// Errors: an allocation fails; all images are unchanged. Cost: constant; a copy of the table
     /// if it has to grow.
     #[inline(always)]
-    pub fn set(&mut self, symbol: u32, place: SymbolRange) -> Result<(), AllocError>
-        ensures ok { OnOk result ((x : ℕ) → lookup (nat_eq x) self.new ≡ (if x == symbol then Some place else lookup (nat_eq x) self.old)) }
+    pub fn set(&mut self, symbol: u32, range: SymbolRange) -> Result<(), AllocError>
+        ensures ok { OnOk result ((x : ℕ) → lookup (nat_eq x) self.new ≡ (if x == symbol then Some range else lookup (nat_eq x) self.old)) }
         ensures same { OnErr result (self.new ≡ self.old) }
     {
         let index = symbol as usize;
         if index >= self.rounds.len() {
-            widen(&mut self.rounds, &mut self.places, index)?;
+            widen(&mut self.rounds, &mut self.ranges, index)?;
         }
-        put(&mut self.rounds, &mut self.places, index, self.round, place);
+        put(&mut self.rounds, &mut self.ranges, index, self.round, range);
         Ok(())
     }
 
@@ -129,57 +129,57 @@ impl ImageRanges {
         self.table().get(symbol)
     }
 
-    /// Returns a read-only view of the tables.
+    /// Returns a read-only view of the lists.
     #[inline(always)]
     pub(crate) fn table(&self) -> ImageTable<'_>
         ensures { result ≡ self.now }
     {
         ImageTable {
             rounds: &self.rounds,
-            places: &self.places,
+            ranges: &self.ranges,
             round: self.round,
         }
     }
 }
 
-/// Writes the round and the range of an image into both tables.
+/// Writes the round and the range of an image at an index.
 #[inline(always)]
 fn put(
     rounds: &mut Vec<u32>,
-    places: &mut Vec<SymbolRange>,
+    ranges: &mut Vec<SymbolRange>,
     index: usize,
     round: u32,
-    place: SymbolRange,
+    range: SymbolRange,
 )
     requires rounds { index < length rounds.old.items }
-    requires places { index < length places.old.items }
+    requires ranges { index < length ranges.old.items }
     ensures rounds { rounds.new.items ≡ slice_set rounds.old.items index round }
-    ensures places { places.new.items ≡ slice_set places.old.items index place }
+    ensures ranges { ranges.new.items ≡ slice_set ranges.old.items index range }
 {
     rounds[index] = round;
-    places[index] = place;
+    ranges[index] = range;
 }
 
-/// Makes both lists longer than an index, and about twice as long as that.
+/// Grows both lists to about twice an index.
 ///
 /// Errors: an allocation fails; the rounds are unchanged.
 #[cold]
 #[inline(never)]
 fn widen(
     rounds: &mut Vec<u32>,
-    places: &mut Vec<SymbolRange>,
+    ranges: &mut Vec<SymbolRange>,
     index: usize,
 ) -> Result<(), AllocError>
     requires index { (length rounds.old.items ≤ index) × (index < 2 ^ 32) }
-    requires ranges { length rounds.old.items ≤ length places.old.items }
-    ensures places { (more : List SymbolRange) × (places.new.items ≡ places.old.items ++ more) }
+    requires ranges { length rounds.old.items ≤ length ranges.old.items }
+    ensures ranges { (more : List SymbolRange) × (ranges.new.items ≡ ranges.old.items ++ more) }
     ensures ok { OnOk result ((more : ℕ) × (rounds.new.items ≡ rounds.old.items ++ replicate more 0)) }
-    ensures there { OnOk result ((index < length rounds.new.items) × (length rounds.new.items ≤ length places.new.items)) }
+    ensures there { OnOk result ((index < length rounds.new.items) × (length rounds.new.items ≤ length ranges.new.items)) }
     ensures err { OnErr result (rounds.new.items ≡ rounds.old.items) }
 {
     let count = 2 * index + SPARE;
-    if places.len() < count {
-        places.resize(count, NO_PLACE)?;
+    if ranges.len() < count {
+        ranges.resize(count, NO_RANGE)?;
     }
     rounds.resize(count, NO_ROUND)?;
     Ok(())

@@ -4,9 +4,9 @@ ghost use Rattle.frame.specs.Substitution.{code_apply, code_image};
 ghost use Rattle.subst.specs.declared.buffer.TheConstants.{SYMBOLS_LIMIT};
 
 use crate::buffer::{Buffer, SYMBOLS_LIMIT};
-use crate::filling::filled_len;
 use crate::image_ranges::ImageRanges;
 use crate::symbol_range::{range_between, symbols_at};
+use crate::writing::applied_len;
 use std::alloc::{AllocError, Global};
 use std::marker::Model;
 
@@ -59,8 +59,8 @@ impl Subst {
             return Err(AllocError);
         }
         self.symbols.extend(image)?;
-        let place = range_between(start, self.symbols.len());
-        match self.images.set(symbol, place) {
+        let range = range_between(start, self.symbols.len());
+        match self.images.set(symbol, range) {
             Ok(()) => Ok(()),
             Err(refused) => {
                 self.symbols.truncate(start);
@@ -74,8 +74,8 @@ impl Subst {
         ensures some { IfSome result (λ image. image.now ≡ code_image self.now symbol) }
         ensures none { IfNone result (code_image self.now symbol ≡ symbol ∷ []) }
     {
-        let place = self.images.get(symbol)?;
-        Some(symbols_at(self.symbols.as_slice(), place))
+        let range = self.images.get(symbol)?;
+        Some(symbols_at(self.symbols.as_slice(), range))
     }
 }
 
@@ -88,14 +88,18 @@ pub fn apply(alloc: Global, subst: &Subst, expr: &[u32]) -> Result<Vec<u32>, All
     ensures { IfOk result (λ applied. applied.items ≡ code_apply subst.now expr.now) }
 {
     let mut applied = Vec::new(alloc);
-    write(subst, expr, &mut applied)?;
+    append_applied(subst, expr, &mut applied)?;
     Ok(applied)
 }
 
 /// Appends the expression with all images substituted.
 ///
 /// Errors: an allocation fails; a part may have been appended.
-pub(crate) fn write(subst: &Subst, expr: &[u32], out: &mut Vec<u32>) -> Result<(), AllocError>
+pub(crate) fn append_applied(
+    subst: &Subst,
+    expr: &[u32],
+    out: &mut Vec<u32>,
+) -> Result<(), AllocError>
     ensures ok { OnOk result (out.new.items ≡ out.old.items ++ code_apply subst.now expr.now) }
     ensures kept { take (length out.old.items) out.new.items ≡ out.old.items }
 {
@@ -115,5 +119,5 @@ pub fn has_room(subst: &Subst, expr: &[u32], buffer: &Buffer) -> bool
     ensures { IsTrue result ↔ (length buffer.now + length (code_apply subst.now expr.now) ≤ SYMBOLS_LIMIT) }
 {
     let room = SYMBOLS_LIMIT - buffer.len();
-    filled_len(subst.symbols.as_slice(), &subst.images, expr, room).is_some()
+    applied_len(subst.symbols.as_slice(), &subst.images, expr, room).is_some()
 }

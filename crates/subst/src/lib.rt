@@ -1,15 +1,14 @@
 //! Simultaneous substitution of images into expressions.
 //!
-//! A symbol's image is a range of a buffer of symbols (`SymbolRange`, `ImageRanges`, `Buffer`), so a verifier takes images
-//! from its results, compares an expression under them without writing it, and appends one to the buffer. `Subst` is such a
-//! table with a buffer of its own, and `apply` substitutes all its images at once. Symbols are numbers; that this is
-//! substitution over the names that they stand for is a law. `DisjointCache` decides whether images meet the disjoint
-//! variable condition.
+//! A symbol's image is a range of a buffer of symbols (`SymbolRange`, `ImageRanges`, `Buffer`). So a verifier takes images
+//! from its results, compares symbols with an expression under these images without writing it, and appends the expression
+//! under them to the buffer. `Subst` is a table of images with a buffer of its own, and `apply` substitutes them all at once.
+//! Symbols are numbers; by a law, this is substitution over the names that they stand for. `DisjointCache` decides whether
+//! images meet the disjoint variable condition.
 //!
-//! In the code the `place` of an image or a result is its range, and the place of a variable is its
-//! index in `VariablePlaces`.
+//! The place of a variable is its index in `VariablePlaces`; a word has a bit for each of 64 places.
 //!
-//! Reading order: `symbol_range`, `image_ranges`, `copies`, `filling`, `matching`, `buffer`, `remaining_symbols`, `images`,
+//! Reading order: `symbol_range`, `image_ranges`, `copies`, `writing`, `matching`, `buffer`, `remaining_symbols`, `images`,
 //! `disjoint_condition`; `hints`, `variable_places`, `place_words`, `place_set`, `disjoint_list_search`, `disjoint_rows`,
 //! `image_variables`, `image_pairs`, `disjoint_tables`, `subject`, `disjoint_cache`; `laws`.
 #![tactic(auto)]
@@ -21,7 +20,6 @@ mod disjoint_condition;
 mod disjoint_list_search;
 mod disjoint_rows;
 mod disjoint_tables;
-mod filling;
 mod hints;
 mod image_pairs;
 mod image_ranges;
@@ -35,6 +33,7 @@ mod remaining_symbols;
 mod subject;
 mod symbol_range;
 mod variable_places;
+mod writing;
 
 pub use buffer::{Buffer, SYMBOLS_LIMIT, apply_into};
 pub use disjoint_cache::DisjointCache;
@@ -42,5 +41,5 @@ pub use disjoint_condition::disjoint;
 pub use image_ranges::ImageRanges;
 pub use images::{Subst, apply, has_room};
 pub use laws::{disjoint_condition_law, substitution_over_names};
-pub use remaining_symbols::{Remaining, is_image_nonempty};
+pub use remaining_symbols::{RemainingSymbols, is_image_nonempty};
 pub use symbol_range::{SymbolRange, range_between, symbols_at};

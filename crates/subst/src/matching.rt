@@ -1,4 +1,4 @@
-//! Compares symbols of a buffer with an expression in which images are substituted, without writing that expression.
+//! Compares symbols of a buffer with an expression with all images substituted, without writing the latter.
 ghost use Rattle.std.specs.Prelude.{◌≡◌, ℕ, ◌∷◌, ◌++◌, ◌↔◌, ◌<◌, ◌≤◌, [], List, length, take, slice_range, IfSome, IfNone, IsTrue};
 ghost use Rattle.frame.specs.Substitution.{code_apply, code_image};
 ghost use Rattle.subst.specs.SymbolRanges.{AreInside, images_at, symbols_in};
@@ -10,7 +10,7 @@ use std::simd::prelude::*;
 /// The number of symbols that are compared at once.
 const LANES: usize = 16;
 
-/// Returns the length of a common prefix of two lists, up to `LANES`.
+/// Returns the length of a common prefix of two lists, at most `LANES`.
 #[inline(always)]
 fn common_prefix_len(left: &[u32], right: &[u32]) -> usize
     requires left { 16 ≤ length left.now }
@@ -26,7 +26,8 @@ fn common_prefix_len(left: &[u32], right: &[u32]) -> usize
     }
 }
 
-/// Returns whether the first `len` symbols of two lists agree. Usually they are few, and are compared at once.
+/// Returns whether the first `len` symbols of two lists agree. Compares up to `LANES` symbols at once if both lists have
+/// `LANES` symbols.
 #[inline(always)]
 fn have_same_prefix(left: &[u32], right: &[u32], len: usize) -> bool
     requires left { len ≤ length left.now }
@@ -40,26 +41,26 @@ fn have_same_prefix(left: &[u32], right: &[u32], len: usize) -> bool
     left[..len] == right[..len]
 }
 
-/// Returns where the image in a range ends if the symbols from `at` up to `end` begin with it, else `None`.
+/// Returns the index after the image in a range if the symbols from `at` up to `end` begin with that image, else `None`.
 #[inline(always)]
-fn skip_range(symbols: &[u32], place: SymbolRange, at: usize, end: usize) -> Option<usize>
-    requires image { (place.start ≤ place.end) × (place.end ≤ length symbols.now) }
+fn skip_range(symbols: &[u32], range: SymbolRange, at: usize, end: usize) -> Option<usize>
+    requires image { (range.start ≤ range.end) × (range.end ≤ length symbols.now) }
     requires rest { (at ≤ end) × (end ≤ length symbols.now) }
-    ensures some { IfSome result (λ next. (next ≤ end) × (slice_range symbols.now at end ≡ symbols_in symbols.now place ++ slice_range symbols.now next end)) }
-    ensures none { IfNone result ((more : List ℕ) → slice_range symbols.now at end ≡ symbols_in symbols.now place ++ more → ⊥) }
+    ensures some { IfSome result (λ next. (next ≤ end) × (slice_range symbols.now at end ≡ symbols_in symbols.now range ++ slice_range symbols.now next end)) }
+    ensures none { IfNone result ((more : List ℕ) → slice_range symbols.now at end ≡ symbols_in symbols.now range ++ more → ⊥) }
 {
-    let len = (place.end - place.start) as usize;
+    let len = (range.end - range.start) as usize;
     if end - at < len {
         return None;
     }
-    if have_same_prefix(&symbols[place.start as usize..], &symbols[at..], len) {
+    if have_same_prefix(&symbols[range.start as usize..], &symbols[at..], len) {
         Some(at + len)
     } else {
         None
     }
 }
 
-/// Returns where the image of a symbol ends if the symbols from `at` up to `end` begin with it, else `None`.
+/// Returns the index after the image of a symbol if the symbols from `at` up to `end` begin with that image, else `None`.
 #[inline(always)]
 fn skip_image(
     symbols: &[u32],
@@ -74,7 +75,7 @@ fn skip_image(
     ensures none { IfNone result ((more : List ℕ) → slice_range symbols.now at end ≡ code_image (images_at symbols.now images.now) symbol ++ more → ⊥) }
 {
     match images.get(symbol) {
-        Some(place) => skip_range(symbols, place, at, end),
+        Some(range) => skip_range(symbols, range, at, end),
         None if at < end && symbols[at] == symbol => Some(at + 1),
         None => None,
     }
@@ -87,15 +88,15 @@ pub(crate) fn matches(
     symbols: &[u32],
     images: &ImageRanges,
     expr: &[u32],
-    whole: SymbolRange,
+    range: SymbolRange,
 ) -> bool
     requires inside { AreInside (length symbols.now) images.now }
-    requires place { (whole.start ≤ whole.end) × (whole.end ≤ length symbols.now) }
-    ensures { IsTrue result ↔ (symbols_in symbols.now whole ≡ code_apply (images_at symbols.now images.now) expr.now) }
+    requires range { (range.start ≤ range.end) × (range.end ≤ length symbols.now) }
+    ensures { IsTrue result ↔ (symbols_in symbols.now range ≡ code_apply (images_at symbols.now images.now) expr.now) }
 {
     let table = images.table();
-    let end = whole.end as usize;
-    let mut at = whole.start as usize;
+    let end = range.end as usize;
+    let mut at = range.start as usize;
     for symbol in expr {
         match skip_image(symbols, &table, *symbol, at, end) {
             Some(next) => at = next,

@@ -1,7 +1,7 @@
 //! A set of places of variables.
 ghost use Rattle.std.specs.Prelude.{◌≡◌, ◌++◌, ◌∷◌, [], length, IfOk, OnOk};
 ghost use Rattle.frame.specs.Below.{AreBelow};
-ghost use Rattle.subst.specs.Stored.PlaceSets.{AddsSymbols, AddsWord, AddsWords, HasEither, HasPlace, TakesPlace};
+ghost use Rattle.subst.specs.Stored.PlaceSets.{AddsSymbols, AddsWord, AddsWords, HasEither, HasPlace, AddsPlaceToWord};
 ghost use Rattle.subst.specs.Stored.VariablePlaces.{ArePlaced, Grows};
 
 use crate::hints::Hints;
@@ -101,8 +101,8 @@ impl PlaceSet {
     /// Adds a place to the current word, and returns that word. If the place is not one of its 64, adds the word to the set
     /// and returns a new one with the place.
     #[inline(always)]
-    fn take(&mut self, word: PlaceWord, place: u32) -> Result<PlaceWord, AllocError>
-        ensures { IfOk result (λ next. TakesPlace self.old word self.new next place) }
+    fn add_to_word(&mut self, word: PlaceWord, place: u32) -> Result<PlaceWord, AllocError>
+        ensures { IfOk result (λ next. AddsPlaceToWord self.old word self.new next place) }
     {
         let index = place / 64;
         let bit = 1u64 << (place % 64);
@@ -116,7 +116,7 @@ impl PlaceSet {
 
     /// Adds the places of the variables among the symbols, except those in the current word at the end, and returns that word.
     #[inline(always)]
-    fn take_symbols(
+    fn add_all_but_last_word(
         &mut self,
         pairs: &Pairs<'_>,
         variables: &mut VariablePlaces,
@@ -131,7 +131,7 @@ impl PlaceSet {
         let mut word = PlaceWord { index: 0, bits: 0 };
         for symbol in image {
             if let Some(place) = variables.place_of(pairs, *symbol)? {
-                word = self.take(word, place)?;
+                word = self.add_to_word(word, place)?;
             }
         }
         Ok(word)
@@ -152,7 +152,7 @@ impl PlaceSet {
         ensures grows { Grows variables.old variables.new }
         ensures added { OnOk result (AddsSymbols pairs.now variables.new (HasPlace self.old) (HasPlace self.new) (length image.now) image.now) }
     {
-        let word = self.take_symbols(pairs, variables, image)?;
+        let word = self.add_all_but_last_word(pairs, variables, image)?;
         if word.bits == 0 {
             return Ok(());
         }

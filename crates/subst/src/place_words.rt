@@ -12,27 +12,31 @@ pub struct PlaceWord {
 }
 
 /// From this many steps on, it costs much to compare two images.
-const COSTLY: usize = 256;
+const MIN_COSTLY_STEPS: usize = 256;
 
 /// Returns the number of steps that it takes to compare the variables at the places of words with those at the places of
-/// `others` other words, or `None` if it is below `COSTLY`.
+/// `other_words` other words, or `None` if it is below `MIN_COSTLY_STEPS`.
 ///
 /// Cost: the words, if there are many of both.
-pub fn costly_steps(words: &[PlaceWord], others: usize) -> Option<usize> {
-    if words.len().saturating_mul(others) < COSTLY / 64 {
+pub fn costly_steps(words: &[PlaceWord], other_words: usize) -> Option<usize> {
+    if words.len().saturating_mul(other_words) < MIN_COSTLY_STEPS / 64 {
         return None;
     }
     let mut places = 0usize;
     for word in words {
         places = places.saturating_add(word.bits.count_ones() as usize);
     }
-    let steps = places.saturating_mul(others);
-    if steps < COSTLY { None } else { Some(steps) }
+    let steps = places.saturating_mul(other_words);
+    if steps < MIN_COSTLY_STEPS {
+        None
+    } else {
+        Some(steps)
+    }
 }
 
 /// Returns the index of the lowest bit that is set in a word.
 #[inline(always)]
-pub fn lowest(word: u64) -> usize
+pub fn lowest_bit(word: u64) -> usize
     requires { 0 < word }
     ensures low { result < 64 }
     ensures set { bit_at word result ≡ 1 }
@@ -42,7 +46,7 @@ pub fn lowest(word: u64) -> usize
 
 /// Returns the word with one of its bits cleared.
 #[inline(always)]
-pub fn without(word: u64, bit: usize) -> u64
+pub fn without_bit(word: u64, bit: usize) -> u64
     requires low { bit < 64 }
     requires set { bit_at word bit ≡ 1 }
     ensures less { result < word }

@@ -5,31 +5,32 @@ ghost use Rattle.entries.specs.PositionSets.{Ascends};
 ghost use Rattle.entries.specs.Stored.Keys.{index_of, key_of};
 ghost use Rattle.entries.specs.SymbolPlaces.{ArePlacesOf};
 ghost use Rattle.frame.specs.Stored.Hypotheses.{In, ListsExactly};
-ghost use Rattle.subst.specs.RemainingSymbols.{is_among, has_nonempty_image, group_left, remaining, HasListed, HaveSameResult};
+ghost use Rattle.subst.specs.RemainingSymbols.{is_among, has_nonempty_image, remaining_group, remaining, HasListed, HaveSameResult};
 
 use crate::image_ranges::{ImageRanges, ImageTable};
 use entries::SymbolPlaces;
 use std::alloc::{AllocError, Global};
 use std::marker::Model;
 
-/// The symbols that are left are few if they are at most the number of symbols of the expression
-/// over this. With more, reading the whole expression costs about as much.
+/// The symbols that are found are few if they are at most the number of symbols of the expression
+/// over this. If there are more, reading the whole expression costs about as much.
 const FEW_LEFT_DIVISOR: usize = 4;
 
 /// A key is a position times this, plus a symbol.
 const KEY_BASE: u64 = 4_294_967_296;
 
-/// Finds the symbols that are left of a long expression without those whose images are empty, so
-/// that a citation need not read all of it.
+/// Finds the symbols of a long expression whose images are not empty, so that a citation need not
+/// read all of it.
 ///
 /// It also has a list of pairs: a symbol is listed for the statement at a position, and
-/// `find_listed` leaves it in the expression of that statement. Contracts see the listed pairs,
-/// each as one number, as `keys`, and the symbols that were found last as `left`.
+/// `find_listed` finds it in the expression of that statement. Contracts see the listed pairs, each
+/// as one number, as `keys`, and the symbols that `find_listed` or `find_nonempty` found last as
+/// `found`.
 #[derive(Drop)]
-pub struct Remaining {
-    /// The indexes of the symbols that are left of the expression.
+pub struct RemainingSymbols {
+    /// The indexes of the symbols that were found in the expression.
     indexes: Vec<u32>,
-    /// The symbols that are left of it.
+    /// The symbols that were found.
     symbols: Vec<u32>,
     /// The listed pairs of a position and a symbol.
     keys: Vec<u64>,
@@ -37,18 +38,18 @@ pub struct Remaining {
     listed: Vec<u32>,
 }
 
-impl Model for Remaining {
-    ghost use Rattle.subst.specs.RemainingSymbols.{RemainingLists};
+impl Model for RemainingSymbols {
+    ghost use Rattle.subst.specs.RemainingSymbols.{ListedAndFound};
 
-    ghost Value = { RemainingLists };
+    ghost Value = { ListedAndFound };
 
-    ghost view = { λ a. record { keys = a.keys.items; left = a.symbols.items } };
+    ghost view = { λ a. record { keys = a.keys.items; found = a.symbols.items } };
 }
 
-impl Remaining {
+impl RemainingSymbols {
     /// Returns empty buffers. Does not allocate.
-    pub fn new(alloc: Global) -> Remaining {
-        Remaining {
+    pub fn new(alloc: Global) -> RemainingSymbols {
+        RemainingSymbols {
             indexes: Vec::new(alloc),
             symbols: Vec::new(alloc),
             keys: Vec::new(alloc),
@@ -84,10 +85,10 @@ impl Remaining {
         self.keys.dedup();
     }
 
-    /// Finds the occurrences of those symbols of an expression that are constants or are listed for
-    /// the statement at a position, in order, or returns `false` if they are more than a quarter of
-    /// the expression. Contracts say only that these symbols are among those that are found, and
-    /// that of each symbol all occurrences are found or none.
+    /// Finds the occurrences, in order, of those symbols of an expression that are constants or are
+    /// listed for the statement at a position. Returns `false` if they are more than a quarter of
+    /// the expression. The contract says only that these symbols are among those that are found,
+    /// and that all occurrences of a symbol are found or none.
     ///
     /// Errors: an allocation fails.
     /// Cost: log n for n listed pairs, a look-up for each constant and listed symbol, and t log t
@@ -101,10 +102,10 @@ impl Remaining {
         requires places { ArePlacesOf expr.now places.now }
         requires ordered { Ascends self.old.keys }
         ensures keys { self.new.keys ≡ self.old.keys }
-        ensures left { IfOk result (λ few. IsTrue few → HasListed self.old.keys position places.now.constants expr.now self.new.left) }
+        ensures found { IfOk result (λ few. IsTrue few → HasListed self.old.keys position places.now.constants expr.now self.new.found) }
     {
         self.indexes.clear();
-        read_symbols(&mut self.listed, keys_at(&self.keys, position))?;
+        copy_symbols_of_keys(&mut self.listed, keys_at(&self.keys, position))?;
         let most = expr.len() / FEW_LEFT_DIVISOR;
         if !add_groups(&mut self.indexes, places, places.constants(), most)? {
             return Ok(false);
@@ -112,14 +113,14 @@ impl Remaining {
         if !add_groups(&mut self.indexes, places, &self.listed, most)? {
             return Ok(false);
         }
-        order(&mut self.indexes);
-        read(&mut self.symbols, expr, &self.indexes)?;
+        sort_and_dedup(&mut self.indexes);
+        copy_symbols_at(&mut self.symbols, expr, &self.indexes)?;
         Ok(true)
     }
 
     /// Returns the symbols that were found last.
-    pub fn left(&self) -> &[u32]
-        ensures { result.now ≡ self.now.left }
+    pub fn found(&self) -> &[u32]
+        ensures { result.now ≡ self.now.found }
     {
         &self.symbols
     }
@@ -127,8 +128,8 @@ impl Remaining {
     /// Returns the symbols of an expression whose images are not empty, in order, or `None` if they are more than a quarter of
     /// the expression.
     ///
-    /// Substitution gives the same result for these symbols as for the whole expression. `None` is always allowed: the caller
-    /// then goes over the whole expression, which only costs more.
+    /// Substitution gives the same result for these symbols as for the whole expression. The contract always allows `None`:
+    /// the caller then goes over the whole expression, which only costs more.
     ///
     /// Errors: an allocation fails.
     /// Cost: a look-up for each distinct symbol of the expression, and t log t for the t symbols that are returned.
@@ -140,15 +141,15 @@ impl Remaining {
         places: &SymbolPlaces,
     ) -> Result<Option<&'a [u32]>, AllocError>
         requires { ArePlacesOf expr.now places.now }
-        ensures left { IfOk result (λ found. IfSome found (λ left. left.now ≡ remaining images.now expr.now)) }
-        ensures same { IfOk result (λ found. IfSome found (λ left. HaveSameResult images.now left.now expr.now)) }
+        ensures found { IfOk result (λ found. IfSome found (λ symbols. symbols.now ≡ remaining images.now expr.now)) }
+        ensures same { IfOk result (λ found. IfSome found (λ symbols. HaveSameResult images.now symbols.now expr.now)) }
     {
-        let few = collect(&mut self.indexes, &images.table(), expr, places)?;
+        let few = collect_indexes(&mut self.indexes, &images.table(), expr, places)?;
         if !few {
             return Ok(None);
         }
-        order(&mut self.indexes);
-        read(&mut self.symbols, expr, &self.indexes)?;
+        sort_and_dedup(&mut self.indexes);
+        copy_symbols_at(&mut self.symbols, expr, &self.indexes)?;
         Ok(Some(&self.symbols))
     }
 }
@@ -157,15 +158,15 @@ impl Remaining {
 pub fn is_image_nonempty(images: &ImageRanges, symbol: u32) -> bool
     ensures { result ≡ has_nonempty_image images.now symbol }
 {
-    is_nonempty(&images.table(), symbol)
+    has_nonempty_image(&images.table(), symbol)
 }
 
 /// Returns whether the image of a symbol is not empty.
-fn is_nonempty(images: &ImageTable<'_>, symbol: u32) -> bool
+fn has_nonempty_image(images: &ImageTable<'_>, symbol: u32) -> bool
     ensures { result ≡ has_nonempty_image images.now symbol }
 {
     match images.get(symbol) {
-        Some(place) => place.start < place.end,
+        Some(range) => range.start < range.end,
         None => true,
     }
 }
@@ -179,8 +180,8 @@ fn symbol_at(expr: &[u32], index: u32) -> Option<u32>
 
 /// Returns the index of the first symbol from `from` on whose image is not empty, or the number of symbols if there is none.
 ///
-/// It is a function of its own so that the loop keeps all it needs in registers: its speed decides that of a citation with
-/// many empty images.
+/// It is a function of its own so that the loop keeps all it needs in registers: the speed of a citation with many empty
+/// images depends on it.
 #[inline(never)]
 fn next_nonempty(images: &ImageTable<'_>, symbols: &[u32], from: usize) -> usize
     requires { from ≤ length symbols.now }
@@ -189,7 +190,7 @@ fn next_nonempty(images: &ImageTable<'_>, symbols: &[u32], from: usize) -> usize
     ensures kept { result < length symbols.now → has_nonempty_image images.now (slice_index symbols.now result) ≡ true }
 {
     for at in from..symbols.len() {
-        if is_nonempty(images, symbols[at]) {
+        if has_nonempty_image(images, symbols[at]) {
             return at;
         }
     }
@@ -198,14 +199,14 @@ fn next_nonempty(images: &ImageTable<'_>, symbols: &[u32], from: usize) -> usize
 
 /// Collects the indexes of the symbols whose images are not empty, group by group, or returns `false` if they are more than a
 /// quarter of the expression.
-fn collect(
+fn collect_indexes(
     indexes: &mut Vec<u32>,
     images: &ImageTable<'_>,
     expr: &[u32],
     places: &SymbolPlaces,
 ) -> Result<bool, AllocError>
     requires { ArePlacesOf expr.now places.now }
-    ensures { IfOk result (λ few. IsTrue few → indexes.new.items ≡ flat_map (group_left images.now expr.now) places.now.groups) }
+    ensures { IfOk result (λ few. IsTrue few → indexes.new.items ≡ flat_map (remaining_group images.now expr.now) places.now.groups) }
 {
     indexes.clear();
     let most = expr.len() / FEW_LEFT_DIVISOR;
@@ -224,7 +225,7 @@ fn collect(
 }
 
 /// Sorts indexes in ascending order, and removes repetitions.
-fn order(indexes: &mut Vec<u32>)
+fn sort_and_dedup(indexes: &mut Vec<u32>)
     ensures { ListsExactly (λ i. In i indexes.old.items) indexes.new.items }
 {
     indexes.sort_unstable();
@@ -232,7 +233,7 @@ fn order(indexes: &mut Vec<u32>)
 }
 
 /// Replaces `symbols` by the symbols at these indexes.
-fn read(symbols: &mut Vec<u32>, expr: &[u32], indexes: &[u32]) -> Result<(), AllocError>
+fn copy_symbols_at(symbols: &mut Vec<u32>, expr: &[u32], indexes: &[u32]) -> Result<(), AllocError>
     ensures { OnOk result (symbols.new.items ≡ filter_map (slice_get expr.now) indexes.now) }
 {
     symbols.clear();
@@ -267,7 +268,7 @@ fn add_groups(
 }
 
 /// Replaces `symbols` by the symbol of each key.
-fn read_symbols(symbols: &mut Vec<u32>, keys: &[u64]) -> Result<(), AllocError>
+fn copy_symbols_of_keys(symbols: &mut Vec<u32>, keys: &[u64]) -> Result<(), AllocError>
     ensures { OnOk result (symbols.new.items ≡ map index_of keys.now) }
 {
     symbols.clear();

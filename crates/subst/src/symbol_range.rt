@@ -11,15 +11,15 @@ pub struct SymbolRange {
     pub end: u32,
 }
 
-/// Returns the symbols in the range `place`.
-pub fn symbols_at(symbols: &[u32], place: SymbolRange) -> &[u32]
-    requires { (place.start ≤ place.end) × (place.end ≤ length symbols.now) }
-    ensures { result.now ≡ symbols_in symbols.now place }
+/// Returns the symbols in a range.
+pub fn symbols_at(symbols: &[u32], range: SymbolRange) -> &[u32]
+    requires { (range.start ≤ range.end) × (range.end ≤ length symbols.now) }
+    ensures { result.now ≡ symbols_in symbols.now range }
 {
-    &symbols[place.start as usize..place.end as usize]
+    &symbols[range.start as usize..range.end as usize]
 }
 
-/// Returns the range from `start` up to, and not including, `end`, which are within the bound of a
+/// Returns the range from `start` up to, and not including, `end`. Both are within the bound of a
 /// buffer.
 pub fn range_between(start: usize, end: usize) -> SymbolRange
     requires { (start ≤ SYMBOLS_LIMIT) × (end ≤ SYMBOLS_LIMIT) }

@@ -4,8 +4,8 @@ ghost use Rattle.std.specs.Int.{bit_at};
 ghost use Rattle.frame.specs.Below.{AreBelow};
 ghost use Rattle.names.specs.Codes.{name_at};
 ghost use Rattle.scope.specs.Active.{is_variable};
-ghost use Rattle.subst.specs.Stored.PlaceSets.{AddsSymbols, HasPlace, near_word};
-ghost use Rattle.subst.specs.Stored.VariablePlaces.{AreBitsOf, ArePlaced, Grows, IsListed, IsPlace};
+ghost use Rattle.subst.specs.Stored.PlaceSets.{AddsSymbols, HasPlace, first_word};
+ghost use Rattle.subst.specs.Stored.VariablePlaces.{AreBitsOf, ArePlaced, Grows, IsMet, IsPlaceOf};
 
 use crate::hints::Hints;
 use crate::symbol_range::contains;
@@ -76,8 +76,8 @@ impl VariablePlaces {
 
     /// Returns the place of a symbol if it was met: `Some(None)` if it is no variable.
     #[inline(always)]
-    fn known(&self, symbol: u32) -> Option<Option<u32>>
-        ensures { IfSome result (IsListed self.now symbol) }
+    fn find(&self, symbol: u32) -> Option<Option<u32>>
+        ensures { IfSome result (IsMet self.now symbol) }
     {
         let met = self.symbols.get(self.hints.get(symbol as usize))?;
         if met.number == symbol {
@@ -96,23 +96,23 @@ impl VariablePlaces {
         requires named { symbol < length pairs.now.names }
         ensures placed { ArePlaced pairs.now self.new }
         ensures grows { Grows self.old self.new }
-        ensures place { IfOk result (IsPlace pairs.now self.new symbol) }
+        ensures place { IfOk result (IsPlaceOf pairs.now self.new symbol) }
     {
-        match self.known(symbol) {
+        match self.find(symbol) {
             Some(place) => Ok(place),
-            None => self.meet(pairs, symbol),
+            None => self.record_symbol(pairs, symbol),
         }
     }
 
     /// Records a symbol that was not met before, and returns its place.
     #[cold]
     #[inline(never)]
-    fn meet(&mut self, pairs: &Pairs<'_>, symbol: u32) -> Result<Option<u32>, AllocError>
+    fn record_symbol(&mut self, pairs: &Pairs<'_>, symbol: u32) -> Result<Option<u32>, AllocError>
         requires placed { ArePlaced pairs.now self.old }
         requires named { symbol < length pairs.now.names }
         ensures placed { ArePlaced pairs.now self.new }
         ensures grows { Grows self.old self.new }
-        ensures place { IfOk result (IsPlace pairs.now self.new symbol) }
+        ensures place { IfOk result (IsPlaceOf pairs.now self.new symbol) }
     {
         let place = self.next_place(pairs, symbol)?;
         let number = symbol;
@@ -127,7 +127,7 @@ impl VariablePlaces {
         requires named { symbol < length pairs.now.names }
         ensures placed { ArePlaced pairs.now self.new }
         ensures grows { Grows self.old self.new }
-        ensures place { IfOk result (IsPlace pairs.now self.new symbol) }
+        ensures place { IfOk result (IsPlaceOf pairs.now self.new symbol) }
     {
         if !pairs.variable(symbol) {
             return Ok(None);
@@ -143,12 +143,16 @@ impl VariablePlaces {
     ///
     /// Errors: an allocation fails. Cost: that of `place_of` for each symbol.
     #[inline(always)]
-    pub fn near_bits(&mut self, pairs: &Pairs<'_>, image: &[u32]) -> Result<Option<u64>, AllocError>
+    pub fn first_word_bits(
+        &mut self,
+        pairs: &Pairs<'_>,
+        image: &[u32],
+    ) -> Result<Option<u64>, AllocError>
         requires placed { ArePlaced pairs.now self.old }
         requires below { AreBelow (length pairs.now.names) image.now }
         ensures placed { ArePlaced pairs.now self.new }
         ensures grows { Grows self.old self.new }
-        ensures bits { IfOk result (λ near. IfSome near (λ bits. AddsSymbols pairs.now self.new (HasPlace []) (HasPlace (near_word bits ∷ [])) (length image.now) image.now)) }
+        ensures bits { IfOk result (λ found. IfSome found (λ bits. AddsSymbols pairs.now self.new (HasPlace []) (HasPlace (first_word bits ∷ [])) (length image.now) image.now)) }
     {
         let mut bits = 0;
         for symbol in image {
@@ -164,7 +168,11 @@ impl VariablePlaces {
     /// Returns the places below 64 of the variables in a list, as bits, each variable once.
     ///
     /// Errors: an allocation fails. Cost: the square of the number of symbols, and that of `place_of` for each.
-    pub fn near_bits_of_list(&mut self, pairs: &Pairs<'_>, list: &[u32]) -> Result<u64, AllocError>
+    pub fn first_word_bits_of_list(
+        &mut self,
+        pairs: &Pairs<'_>,
+        list: &[u32],
+    ) -> Result<u64, AllocError>
         requires placed { ArePlaced pairs.now self.old }
         requires below { AreBelow (length pairs.now.names) list.now }
         ensures placed { ArePlaced pairs.now self.new }

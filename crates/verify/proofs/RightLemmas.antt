@@ -1,5 +1,5 @@
 -- The answers for a right proof, and for a compressed proof that was read.
-use Rattle.verify.proofs.Words.{◌≡◌, ℕ, ◌≤◌, ◌<◌, ◌↔◌, min, List, [], length, map, get_or, Some, Result, Ok, Err, IfOk, refl, option_map, Bool, true, false, not, ◌∷◌, ◌++◌, take, sym, ◌∙◌, ap, subst, arith, inl, inr, true≢false, length-map, take_at, slice_get-get_or, not-false, not-true, Database, Stmt, HasLabelsOnce, Item, Extent, Node, TreePlan, Derivation, node_count, depth, IsRight, Derives, IsSmall, IsProvable, IsAnswerTo, trees, GrowsBy, pick, built, trees_of, IsPlan, extent_of, below-at, bare, bares, stmt_at, is_provable, before, stmt_at-bares, Name, hypotheses, items_of, share_label, IsHeading, label_or_empty, mandatory_labels, Proves, some-same, bare-same, is_compressed, finish, Writes, WritesCompressed, compressed_finished, one_list, Answer, Proved, Wrong}
+use Rattle.verify.proofs.Words.{◌≡◌, ℕ, ◌≤◌, ◌<◌, ◌↔◌, min, List, [], length, map, get_or, Some, Result, Ok, Err, IfOk, refl, option_map, Bool, true, false, not, ◌∷◌, ◌++◌, take, sym, ◌∙◌, ap, subst, arith, inl, inr, true≢false, length-map, take_at, slice_get-get_or, not-false, not-true, Database, Stmt, HasLabelsOnce, Item, Extent, Node, TreePlan, Derivation, node_count, depth, IsRight, Derives, IsSmall, IsProvable, IsAnswerTo, trees, GrowsBy, pick, built, trees_of, IsPlan, extent_of, below-at, bare, bares, stmt_at, is_provable, before, stmt_at-bares, Name, hypotheses, items_of, share_label, IsHeadingWithNumbers, label_or_empty, mandatory_labels, Proves, some-same, bare-same, is_compressed, right_parenthesis, Writes, WritesCompressed, compressed_finished, one_list, Answer, Proved, Wrong}
 use Rattle.verify.specs.declared.answer.TreeFault.TheVariants.{Wrong}
 use Rattle.verify.proofs.GrowthLemmas.{spelled_once, leaves, only-number}
 use Rattle.verify.proofs.PlanLemmas.{length-built', child-extent}
@@ -67,9 +67,9 @@ module _ (S : Database) (at : ℕ) (s : Stmt) (tokens : List Name) (provable : I
   pub unwritten : (hs : List ℕ) → hs ≡ hypotheses (before S at) s → ((labels : List Name) → length labels ≡ length hs → (items : List Item) → WritesCompressed tokens labels items → ⊥) → Proves S at tokens → ⊥
   unwritten hs are none p = none (mandatory_labels S at s) (many hs are) p.items (written-by p.items (written-of p))
 
-  module _ (m : ℕ) (words : List Name) (count : ℕ) (numbers : List ℕ) (heading : IsHeading tokens m words count numbers) where
+  module _ (m : ℕ) (words : List Name) (count : ℕ) (numbers : List ℕ) (heading : IsHeadingWithNumbers tokens m words count numbers) where
     listed-is : take count words ≡ heading.listed
-    listed-is = ap (take count) heading.whole ∙ take_at heading.listed (finish ∷ heading.rest) count heading.many
+    listed-is = ap (take count) heading.whole ∙ take_at heading.listed (right_parenthesis ∷ heading.rest) count heading.many
 
     -- if a mandatory label is listed, the tokens do not prove the statement
     pub one-listed : (b : Bool) → b ≡ false → b ≡ not (share_label (mandatory_labels S at s) (take count words)) → Proves S at tokens → ⊥

@@ -37,8 +37,8 @@ pub use Rattle.proof_code.proofs.AnswersLemmas.{compressed_finished}
 pub use Rattle.proof_code.proofs.OneList.{one_list}
 pub use Rattle.proof_code.proofs.RowOfNumbers.{item-cite, item-recall}
 pub use Rattle.proof_code.specs.ItemNumbers.{item_of, items_of}
-pub use Rattle.proof_code.specs.Reading.{IsHeading, share_label}
-pub use Rattle.proof_code.specs.Writes.{Writes, WritesCompressed, finish, is_compressed}
+pub use Rattle.proof_code.specs.Reading.{IsHeadingWithNumbers, share_label}
+pub use Rattle.proof_code.specs.Writes.{Writes, WritesCompressed, right_parenthesis, is_compressed}
 pub use Rattle.proof_code.specs.declared.item.Item.TheVariants.{Cite, Mark, Recall}
 pub use Rattle.proof_code.specs.declared.item.Item.{Item}
 pub use Rattle.scope.proofs.BareLemmas.{bare-same}

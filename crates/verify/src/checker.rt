@@ -23,7 +23,7 @@ use mm_lex::Words;
 use proof_code::{CodeFault, Items, Reader, is_compressed, normal};
 use std::alloc::{AllocError, Global};
 use std::marker::Model;
-use subst::Remaining;
+use subst::RemainingSymbols;
 
 /// A checker keeps the memory that proofs up to this size need: 1 MB for this many symbols.
 const KEPT_SIZE: usize = 262_144;
@@ -70,7 +70,7 @@ impl Checker {
             buffers: Buffers {
                 frame_buffers: FrameBuffers::new(alloc),
                 kept: CitationCache::new(alloc),
-                remaining: Remaining::new(alloc),
+                remaining: RemainingSymbols::new(alloc),
                 results: Results::new(alloc),
             },
         }

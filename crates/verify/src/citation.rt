@@ -19,7 +19,7 @@ use crate::results::Results;
 use entries::AssertionView;
 use frame::{FrameBuffers, Frames, MandatoryView, Pairs};
 use std::alloc::AllocError;
-use subst::Remaining;
+use subst::RemainingSymbols;
 
 /// The context of a proof: the statements, the position of its `$p`, and the pairs of disjoint variables that are active there.
 #[derive(Drop)]
@@ -40,7 +40,7 @@ pub struct Buffers {
     /// The long lists that are kept, and facts on pairs of variables.
     pub kept: CitationCache,
     /// For the symbols of a long expression that remain when those whose images are empty are left out.
-    pub remaining: Remaining,
+    pub remaining: RemainingSymbols,
     /// The results of the proof so far.
     pub results: Results,
 }
@@ -54,7 +54,7 @@ fn cite_by_view(
     context: &ProofContext<'_>,
     position: usize,
     cited: &AssertionView<'_>,
-    remaining: &mut Remaining,
+    remaining: &mut RemainingSymbols,
     results: &mut Results,
 ) -> Result<bool, AllocError>
     requires may { MayCite context.now position results.old.about results.old.results }

@@ -17,7 +17,7 @@ use crate::results::Results;
 use frame::{FrameBuffers, Frames, MandatoryView};
 use proof_code::Items;
 use std::alloc::{AllocError, Global};
-use subst::Remaining;
+use subst::RemainingSymbols;
 
 /// Where the run over the items of a proof fails, and the results before it.
 #[derive(Drop)]
@@ -82,7 +82,7 @@ pub fn first_failure(
     let mut buffers = Buffers {
         frame_buffers: FrameBuffers::new(alloc),
         kept: CitationCache::new(alloc),
-        remaining: Remaining::new(alloc),
+        remaining: RemainingSymbols::new(alloc),
         results: Results::new(alloc),
     };
     let pairs = frames.active_pairs(at);

@@ -30,8 +30,8 @@ use frame::{Frames, LONG_EXPRESSION, Pairs};
 use std::alloc::{AllocError, Global};
 use std::marker::Model;
 use subst::{
-    Buffer, DisjointCache, ImageRanges, Remaining, SYMBOLS_LIMIT, SymbolRange, is_image_nonempty,
-    range_between, symbols_at,
+    Buffer, DisjointCache, ImageRanges, RemainingSymbols, SYMBOLS_LIMIT, SymbolRange,
+    is_image_nonempty, range_between, symbols_at,
 };
 
 /// The results of a proof so far, with their symbols in one buffer, and the images that were read
@@ -63,7 +63,7 @@ impl Model for Results {
 
     ghost view = { λ a. held a.symbols a.images a.stack.items a.saved.items a.weight a.cache.about };
 
-    ghost invariant = { λ a. AreHeld a.cache.over a.symbols a.images a.stack.items a.saved.items a.weight };
+    ghost invariant = { λ a. AreHeld a.cache.buffer_symbols a.symbols a.images a.stack.items a.saved.items a.weight };
 }
 
 impl Results {
@@ -103,12 +103,12 @@ impl Results {
     /// Begins a proof under the pairs that are active at its statement: removes all results and
     /// images, and adds an empty saved result for each of `label_count` labels. Keeps the memory.
     ///
-    /// Errors: an allocation fails. Cost: the number of labels, and that of `DisjointCache::begin`.
+    /// Errors: an allocation fails. Cost: the number of labels, and that of `DisjointCache::begin_proof`.
     pub fn start(&mut self, pairs: &Pairs<'_>, label_count: usize) -> Result<(), AllocError>
         ensures about { self.new.about ≡ pairs.now }
         ensures results { OnOk result (self.new.results ≡ record { stack = []; saved = replicate label_count []; weight = 0 }) }
     {
-        self.cache.begin(pairs);
+        self.cache.begin_proof(pairs);
         self.images.clear();
         self.symbols.truncate(0);
         self.stack.clear();
@@ -238,7 +238,7 @@ impl Results {
         cited: usize,
         hypotheses: &Hypotheses<'_>,
         leading_count: usize,
-        remaining: &mut Remaining,
+        remaining: &mut RemainingSymbols,
     ) -> bool
         requires leading { AreLeadingFloats hypotheses.now leading_count }
         requires legal { HasLegalProperties frames.now.statements frames.now.names }
@@ -279,7 +279,7 @@ impl Results {
         cited: usize,
         hypotheses: &Hypotheses<'_>,
         from: usize,
-        remaining: &mut Remaining,
+        remaining: &mut RemainingSymbols,
     ) -> bool
         requires legal { HasLegalProperties frames.now.statements frames.now.names }
         requires assertion { (s : Statement) × HasAssertion frames.now.statements cited s }
@@ -325,7 +325,7 @@ impl Results {
         frames: &Frames,
         position: usize,
         expr: &'a [u32],
-        remaining: &'a mut Remaining,
+        remaining: &'a mut RemainingSymbols,
     ) -> &'a [u32]
         requires distinct { AreDistinct frames.now.names }
         requires below { AreBelow (length frames.now.names) expr.now }
@@ -347,7 +347,7 @@ impl Results {
         frames: &Frames,
         position: usize,
         expr: &'a [u32],
-        remaining: &'a mut Remaining,
+        remaining: &'a mut RemainingSymbols,
     ) -> &'a [u32]
         requires distinct { AreDistinct frames.now.names }
         requires below { AreBelow (length frames.now.names) expr.now }
@@ -492,7 +492,7 @@ fn list_symbols(
     cited: usize,
     images: &ImageRanges,
     hypotheses: &Hypotheses<'_>,
-    remaining: &mut Remaining,
+    remaining: &mut RemainingSymbols,
 ) -> Result<(), AllocError>
     requires assertion { (s : Statement) × HasAssertion frames.now.statements cited s }
     requires numbered_hypotheses { AreHypothesesOf frames.now.statements frames.now.names cited hypotheses.now }
@@ -514,7 +514,7 @@ fn list_hypothesis(
     cited: usize,
     images: &ImageRanges,
     hypothesis: Hypothesis,
-    remaining: &mut Remaining,
+    remaining: &mut RemainingSymbols,
 ) -> Result<(), AllocError>
     requires named { (x : ℕ) → hypothesis ≡ Float x → x < length frames.now.names }
     requires assertion { (s : Statement) × HasAssertion frames.now.statements cited s }
@@ -537,7 +537,7 @@ fn list_symbol(
     frames: &Frames,
     cited: usize,
     symbol: u32,
-    remaining: &mut Remaining,
+    remaining: &mut RemainingSymbols,
 ) -> Result<(), AllocError>
     requires named { symbol < length frames.now.names }
     requires assertion { (s : Statement) × HasAssertion frames.now.statements cited s }
@@ -553,13 +553,13 @@ fn list_symbol(
 
 /// Finds those symbols of the expression of the `$e` at a position that are constants or are listed for it, and returns whether
 /// the expression is long and these are few. Returns `false` if an allocation fails.
-fn find_remaining(frames: &Frames, position: u32, expr: &[u32], remaining: &mut Remaining) -> bool
+fn find_remaining(frames: &Frames, position: u32, expr: &[u32], remaining: &mut RemainingSymbols) -> bool
     requires distinct { AreDistinct frames.now.names }
     requires below { AreBelow (length frames.now.names) expr.now }
     requires stands { (label : Name) × (e : Expr) × IsExprAt frames.now.statements frames.now.names position expr.now (Ess label e) }
     requires ordered { Ascends remaining.old.keys }
     ensures keys { remaining.new.keys ≡ remaining.old.keys }
-    ensures remaining { IsTrue result → AreRemaining frames.now.statements frames.now.names position expr.now remaining.old.keys remaining.new.left }
+    ensures remaining { IsTrue result → AreRemaining frames.now.statements frames.now.names position expr.now remaining.old.keys remaining.new.found }
 {
     if expr.len() < LONG_EXPRESSION {
         return false;
@@ -582,7 +582,7 @@ fn essential_matches(
     position: u32,
     expr: &[u32],
     listed: bool,
-    remaining: &mut Remaining,
+    remaining: &mut RemainingSymbols,
     place: SymbolRange,
 ) -> bool
     requires inside { AreInside (length symbols.now) images.now }
@@ -601,7 +601,7 @@ fn essential_matches(
     if !find_remaining(frames, position, expr, remaining) {
         return symbols.matches(images, expr, place);
     }
-    symbols.matches(images, remaining.left(), place)
+    symbols.matches(images, remaining.found(), place)
 }
 
 /// Truncates to the first `keep` ranges and appends one. Usually this overwrites the next range.

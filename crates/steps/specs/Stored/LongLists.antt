@@ -10,9 +10,9 @@ use Rattle.steps.specs.Words.{Name, Stmt, Database, stmt_at, before, decode, Hyp
 abbrev pub with_groups : AssertionView → List (List ℕ) → AssertionView
 with_groups c groups = record { typecodes = c.typecodes; hypotheses = c.hypotheses; conclusion = c.conclusion; groups = groups }
 
--- with some groups, c is the view of the assertion s at a
-abbrev pub HasPartsOf : Database → List Name → ℕ → Stmt → AssertionView → Type 0
-HasPartsOf S names a s c = (groups : List (List ℕ)) × IsViewOf S names a s (with_groups c groups)
+-- c is a view of the assertion s at a, but for its groups
+abbrev pub IsViewUpToGroups : Database → List Name → ℕ → Stmt → AssertionView → Type 0
+IsViewUpToGroups S names a s c = (groups : List (List ℕ)) × IsViewOf S names a s (with_groups c groups)
 
 -- ---- what is kept
 
@@ -23,24 +23,24 @@ pub record ListedHypotheses : Type 0 where
   pub numbered_hypotheses : List Hypothesis
 
 -- the list was copied from this view
-pub record AreMadeOf (position : ℕ) (c : AssertionView) (l : ListedHypotheses) : Type 0 where
+pub record IsCopyOf (position : ℕ) (c : AssertionView) (l : ListedHypotheses) : Type 0 where
   pub at : l.position ≡ position
   pub typecodes_same : l.typecodes ≡ c.typecodes.now
   pub hypotheses_same : l.numbered_hypotheses ≡ c.hypotheses
 
 -- the list has the hypotheses of the assertion s at its position, whose groups of disjoint variables have symbol numbers
-pub record AreListsOf (S : Database) (names : List Name) (l : ListedHypotheses) (s : Stmt) : Type 0 where
+pub record IsListOf (S : Database) (names : List Name) (l : ListedHypotheses) (s : Stmt) : Type 0 where
   pub hypotheses_of : AreNumberedHypotheses S names (hypotheses (before S l.position) s) l.typecodes l.numbered_hypotheses
   pub groups : List (List ℕ)
   pub are_groups : map (decode names) groups ≡ mandatory_groups (before S l.position) s
   pub below_names : AllBelow (length names) groups
 
 -- each of the lists has the hypotheses of its assertion
-abbrev pub AreKept : Database → List Name → List ListedHypotheses → Type 0
-AreKept S names [] = Unit {0}
-AreKept S names (l ∷ ls) = ((s : Stmt) → stmt_at S l.position ≡ Some s → AreListsOf S names l s) × AreKept S names ls
+abbrev pub AreListsOfAssertions : Database → List Name → List ListedHypotheses → Type 0
+AreListsOfAssertions S names [] = Unit {0}
+AreListsOfAssertions S names (l ∷ ls) = ((s : Stmt) → stmt_at S l.position ≡ Some s → IsListOf S names l s) × AreListsOfAssertions S names ls
 
 -- the list of the assertion at a position has the index i
-pub record IsAt (ls : List ListedHypotheses) (i position : ℕ) : Type 0 where
+pub record IsListAt (ls : List ListedHypotheses) (i position : ℕ) : Type 0 where
   pub within : i < length ls
   pub there : (l : ListedHypotheses) → slice_get ls i ≡ Some l → l.position ≡ position

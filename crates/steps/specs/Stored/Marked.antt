@@ -5,14 +5,14 @@ use Rattle.std.specs.Prelude.{◌≡◌, ◌↔◌, ◌⊎◌, ℕ, zero, suc, �
 use Rattle.steps.specs.Words.{Database, Hypothesis, Float, Essential}
 use Rattle.steps.specs.StepTable.{Step}
 use Rattle.steps.specs.Rows.{Row, row, no_row}
-use Rattle.steps.specs.Essential.{essential_of, IsIn, IsEssential}
+use Rattle.steps.specs.Essential.{premise_places, IsIn, IsEssential}
 
 -- the places taken for a `$e`, among the places taken for these hypotheses
-abbrev pub taken_by : List Hypothesis → List ℕ → List ℕ
-taken_by [] taken = []
-taken_by (h ∷ hs) [] = []
-taken_by (Float x ∷ hs) (k ∷ taken) = taken_by hs taken
-taken_by (Essential p ∷ hs) (k ∷ taken) = k ∷ taken_by hs taken
+abbrev pub taken_for_essentials : List Hypothesis → List ℕ → List ℕ
+taken_for_essentials [] taken = []
+taken_for_essentials (h ∷ hs) [] = []
+taken_for_essentials (Float x ∷ hs) (k ∷ taken) = taken_for_essentials hs taken
+taken_for_essentials (Essential p ∷ hs) (k ∷ taken) = k ∷ taken_for_essentials hs taken
 
 -- ---- marks
 
@@ -39,7 +39,7 @@ pub record AreMarkedFrom (S : Database) (steps : List Step) (from : ℕ) (marks 
   pub count : length marks ≡ length steps
   pub sound : (k : ℕ) → HasMark marks k → IsEssential S steps k
   pub last : (k : ℕ) → length steps ≡ suc k → HasMark marks k
-  pub closed : (j k : ℕ) (step : Step) → from ≤ j → HasMark marks j → slice_get steps j ≡ Some step → IsIn k (essential_of S step) → HasMark marks k
+  pub closed : (j k : ℕ) (step : Step) → from ≤ j → HasMark marks j → slice_get steps j ≡ Some step → IsIn k (premise_places S step) → HasMark marks k
 
 -- the marked steps are the essential ones
 pub record AreMarks (S : Database) (steps : List Step) (marks : List Bool) : Type 0 where
@@ -64,4 +64,4 @@ pub record AreNumbers (marks : List Bool) (k : ℕ) (numbers : List ℕ) : Type 
 
 -- the row at k, renumbered
 abbrev pub kept_row : Database → List Row → List Bool → ℕ → Row
-kept_row S rows marks k = row (get_or rows k no_row).step.position (map (number_of marks) (essential_of S (get_or rows k no_row).step)) (get_or rows k no_row).expr
+kept_row S rows marks k = row (get_or rows k no_row).step.position (map (number_of marks) (premise_places S (get_or rows k no_row).step)) (get_or rows k no_row).expr

@@ -9,15 +9,15 @@ use Rattle.subst.specs.declared.symbol_range.SymbolRange.{SymbolRange}
 use Rattle.subst.specs.declared.disjoint_tables.DisjointTables.{DisjointTables}
 use Rattle.subst.specs.Stored.DisjointRows.{AreFacts}
 use Rattle.subst.specs.Stored.ImagePairs.{AreDisjointPairs}
-use Rattle.subst.specs.Stored.ImageVariables.{AreImagesRecorded}
+use Rattle.subst.specs.Stored.ImageVariables.{AreLongImages}
 use Rattle.subst.specs.Stored.VariablePlaces.{ArePlaced}
 
 -- all that the tables hold is true
 pub record AreTables (v : Numbered) (symbols : List ℕ) (t : DisjointTables) : Type 0 where
   pub placed : ArePlaced v t.variables
-  pub recorded : AreImagesRecorded v t.variables symbols t.images
+  pub recorded : AreLongImages v t.variables symbols t.images
   pub facts : AreFacts v t.variables t.rows
-  pub found : AreDisjointPairs v symbols t.found
+  pub image_pairs : AreDisjointPairs v symbols t.image_pairs
 
 -- the images of two numbers are disjoint
 abbrev pub are_named_disjoint : Numbered → List ℕ → List (ℕ × SymbolRange) → ℕ → ℕ → Bool

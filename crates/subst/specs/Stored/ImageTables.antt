@@ -6,10 +6,10 @@ use Rattle.std.specs.Prelude.{ℕ, suc, ◌≤◌, ◌==◌, if◌then◌else◌
 use Rattle.subst.specs.declared.symbol_range.SymbolRange.{SymbolRange}
 
 -- the symbols from k on whose images were set in the round, with their ranges
-abbrev pub placed : ℕ → ℕ → List ℕ → List SymbolRange → List (ℕ × SymbolRange)
-placed round k [] places = []
-placed round k (r ∷ rounds) [] = []
-placed round k (r ∷ rounds) (place ∷ places) = if r == round then (k, place) ∷ placed round (suc k) rounds places else placed round (suc k) rounds places
+abbrev pub images_in_round : ℕ → ℕ → List ℕ → List SymbolRange → List (ℕ × SymbolRange)
+images_in_round round k [] ranges = []
+images_in_round round k (r ∷ rounds) [] = []
+images_in_round round k (r ∷ rounds) (range ∷ ranges) = if r == round then (k, range) ∷ images_in_round round (suc k) rounds ranges else images_in_round round (suc k) rounds ranges
 
 -- none was set in a later round
 abbrev pub AreUpTo : ℕ → List ℕ → Type 0

@@ -11,8 +11,8 @@ abbrev pub no_word : PlaceWord
 no_word = record { index = 0; bits = 0 }
 
 -- the word of the first 64 places
-abbrev pub near_word : ℕ → PlaceWord
-near_word bits = record { index = 0; bits = bits }
+abbrev pub first_word : ℕ → PlaceWord
+first_word bits = record { index = 0; bits = bits }
 
 -- the word has this place
 pub record HasBit (w : PlaceWord) (j : ℕ) : Type 0 where
@@ -21,14 +21,14 @@ pub record HasBit (w : PlaceWord) (j : ℕ) : Type 0 where
   pub set : bit_at w.bits bit ≡ 1
 
 -- one of the first n words has it
-pub record HasAmong (n : ℕ) (ws : List PlaceWord) (j : ℕ) : Type 0 where
+pub record HasPlaceAmong (n : ℕ) (ws : List PlaceWord) (j : ℕ) : Type 0 where
   pub word : ℕ
   pub there : word < n
   pub has : HasBit (get_or ws word no_word) j
 
 -- one of the words has it
 abbrev pub HasPlace : List PlaceWord → ℕ → Type 0
-HasPlace ws j = HasAmong (length ws) ws j
+HasPlace ws j = HasPlaceAmong (length ws) ws j
 
 -- each place of the words is below n
 abbrev pub ArePlacesBelow : ℕ → List PlaceWord → Type 0
@@ -43,8 +43,8 @@ pub record AddsWord (old new : List PlaceWord) (w : PlaceWord) : Type 0 where
 -- the places of the first n words of a list are added
 pub record AddsFirst (old new : List PlaceWord) (n : ℕ) (ws : List PlaceWord) : Type 0 where
   pub before : (j : ℕ) → HasPlace old j → HasPlace new j
-  pub added : (j : ℕ) → HasAmong n ws j → HasPlace new j
-  pub only : (j : ℕ) → HasPlace new j → HasPlace old j ⊎ HasAmong n ws j
+  pub added : (j : ℕ) → HasPlaceAmong n ws j → HasPlace new j
+  pub only : (j : ℕ) → HasPlace new j → HasPlace old j ⊎ HasPlaceAmong n ws j
 
 -- the places of all words of a list are added
 abbrev pub AddsWords : List PlaceWord → List PlaceWord → List PlaceWord → Type 0
@@ -55,7 +55,7 @@ abbrev pub HasEither : List PlaceWord → PlaceWord → ℕ → Type 0
 HasEither ws w j = HasPlace ws j ⊎ HasBit w j
 
 -- a place is added, to the set or to the current word
-pub record TakesPlace (old : List PlaceWord) (w : PlaceWord) (new : List PlaceWord) (next : PlaceWord) (place : ℕ) : Type 0 where
+pub record AddsPlaceToWord (old : List PlaceWord) (w : PlaceWord) (new : List PlaceWord) (next : PlaceWord) (place : ℕ) : Type 0 where
   pub before : (j : ℕ) → HasEither old w j → HasEither new next j
   pub added : HasEither new next place
   pub only : (j : ℕ) → HasEither new next j → HasEither old w j ⊎ (j ≡ place)

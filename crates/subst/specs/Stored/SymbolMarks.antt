@@ -19,13 +19,13 @@ pub record AreMarksOf (n : ℕ) (list : List ℕ) (marks : List Bool) : Type 0 w
   pub only : (x : ℕ) → IsMarked marks x → IsAmong n list x
 
 -- x was marked, and its mark was removed
-pub record TakesMark (old new : List Bool) (x : ℕ) : Type 0 where
+pub record RemovesMark (old new : List Bool) (x : ℕ) : Type 0 where
   pub was : IsMarked old x
   pub gone : IsMarked new x → ⊥
   pub only : (y : ℕ) → IsMarked new y → IsMarked old y
 
 -- the variable at each of these places was marked, and its mark was removed
-pub record TakesPlaces (f : MetVariables) (IsOne : ℕ → Type 0) (old new : List Bool) : Type 0 where
+pub record RemovesMarksOfPlaces (f : MetVariables) (IsOne : ℕ → Type 0) (old new : List Bool) : Type 0 where
   pub was : (j : ℕ) → IsOne j → IsMarked old (number_at f j)
   pub gone : (j : ℕ) → IsOne j → IsMarked new (number_at f j) → ⊥
   pub only : (y : ℕ) → IsMarked new y → IsMarked old y

@@ -28,13 +28,13 @@ pub record Grows (old new : MetVariables) : Type 0 where
   pub each : (j x : ℕ) → IsAt old j x → IsAt new j x
 
 -- x is the variable at this place; without a place it is no variable
-abbrev pub IsPlace : Numbered → MetVariables → ℕ → Option ℕ → Type 0
-IsPlace v f x (Some j) = IsAt f j x
-IsPlace v f x None = is_variable v.statements (name_at v.names x) ≡ false
+abbrev pub IsPlaceOf : Numbered → MetVariables → ℕ → Option ℕ → Type 0
+IsPlaceOf v f x (Some j) = IsAt f j x
+IsPlaceOf v f x None = is_variable v.statements (name_at v.names x) ≡ false
 
 -- the symbol x was met, and has this place
-abbrev pub IsListed : MetVariables → ℕ → Option ℕ → Type 0
-IsListed f x place = Contains f.symbols (record { number = x; place = place })
+abbrev pub IsMet : MetVariables → ℕ → Option ℕ → Type 0
+IsMet f x place = Contains f.symbols (record { number = x; place = place })
 
 -- x is the number of a variable
 pub record IsVariable (v : Numbered) (x : ℕ) : Type 0 where
@@ -43,7 +43,7 @@ pub record IsVariable (v : Numbered) (x : ℕ) : Type 0 where
 
 -- each symbol that was met has its place, and only variables have places
 pub record ArePlaced (v : Numbered) (f : MetVariables) : Type 0 where
-  pub symbols : All (λ s. IsPlace v f s.number s.place) f.symbols
+  pub symbols : All (λ s. IsPlaceOf v f s.number s.place) f.symbols
   pub variables : All (IsVariable v) f.variables
 
 -- ---- sets of places

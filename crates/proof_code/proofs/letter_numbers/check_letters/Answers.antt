@@ -9,7 +9,7 @@ loop-byte-preserved c =
     let goes = next-read loop.invariant.read.0 loop.state.limit loop.state.digits (slice_index_or text loop.byte-index 0) _ _ _ c.in_ok-check.ensures.some in
     let more = read-more c.args.labels text _ _ _ text _ loop.invariant.read.1 _ _ _ _ refl c.loop-byte-test.true goes in
     record {
-      read = (_, rw (← c.pass.ensures.limit, ← c.pass.ensures.digits) at more);
-      room = omega (arith, c.pass.ensures.within, loop.invariant.room);
-      begun = rw c.pass.ensures.digits c.in_ok-check.ensures.begun;
+      read = (_, rw (← c.advance.ensures.limit, ← c.advance.ensures.digits) at more);
+      room = omega (arith, c.advance.ensures.within, loop.invariant.room);
+      digits_in_range = rw c.advance.ensures.digits c.in_ok-check.ensures.digits_in_range;
     }

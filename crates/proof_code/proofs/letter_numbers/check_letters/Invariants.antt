@@ -6,5 +6,5 @@ abbrev pub invariant-loop-byte : goal.invariant-loop-byte
 invariant-loop-byte l = record {
   read : (numbers : List ℕ) × IsRead l.labels l.text l.state.limit l.state.digits numbers (drop l.byte-index l.text);
   room : l.state.limit ≤ l.labels + l.byte-index;
-  begun : l.state.digits ≤ l.digits_limit;
+  digits_in_range : l.state.digits ≤ l.digits_limit;
 }

@@ -15,5 +15,5 @@ loop-four-preserved c =
       read = read-more labels text _ _ _ text (at + 3) third _ _ _ (4 * (c.loop-four.four + 1)) (omega arith) (omega (arith, whole)) c.in_ok-count-4.ensures.some;
       kept = omega (arith, c.loop-four.invariant.kept, c.in_ok-count.ensures.within, c.in_ok-count-2.ensures.within, c.in_ok-count-3.ensures.within, c.in_ok-count-4.ensures.within);
       room = omega (arith, c.loop-four.invariant.room, c.in_ok-count.ensures.limit, c.in_ok-count-2.ensures.limit, c.in_ok-count-3.ensures.limit, c.in_ok-count-4.ensures.limit);
-      begun = c.in_ok-count-4.ensures.begun;
+      digits_in_range = c.in_ok-count-4.ensures.digits_in_range;
     }

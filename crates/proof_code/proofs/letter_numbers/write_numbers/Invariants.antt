@@ -7,7 +7,7 @@ invariant-loop-four l = record {
   read : IsRead l.labels l.text l.state.limit l.state.digits (take l.count l.numbers) (drop (4 * l.four) l.text);
   kept : l.count ≤ 4 * l.four;
   room : l.state.limit ≤ l.labels + 4 * l.four;
-  begun : l.state.digits ≤ l.state.limit;
+  digits_in_range : l.state.digits ≤ l.state.limit;
 }
 
 abbrev pub invariant-loop-byte : goal.invariant-loop-byte
@@ -15,5 +15,5 @@ invariant-loop-byte l = record {
   read : IsRead l.labels l.text l.state.limit l.state.digits (take l.count l.numbers) (drop l.byte-index l.byte-items);
   kept : l.count + length l.byte-items ≤ length l.text + l.byte-index;
   room : l.state.limit + length l.byte-items ≤ l.labels + length l.text + l.byte-index;
-  begun : l.state.digits ≤ l.state.limit;
+  digits_in_range : l.state.digits ≤ l.state.limit;
 }

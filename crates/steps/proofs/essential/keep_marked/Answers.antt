@@ -1,4 +1,4 @@
-use Rattle.steps.proofs.Words.{◌≡◌, ◌+◌, ◌<◌, ◌∷◌, ◌++◌, [], ap, sym, ◌∙◌, subst, arith, length, length-append, map, get_or, length-map, AreBelow, no_row, essential_of, marked_before, number_of, AreNumbers, kept_row, below-more, below-get}
+use Rattle.steps.proofs.Words.{◌≡◌, ◌+◌, ◌<◌, ◌∷◌, ◌++◌, [], ap, sym, ◌∙◌, subst, arith, length, length-append, map, get_or, length-map, AreBelow, no_row, premise_places, marked_before, number_of, AreNumbers, kept_row, below-more, below-get}
 use Rattle.steps.proofs.DraftRowLemmas.{row-same}
 use Rattle.steps.proofs.PremiseLemmas.{premises-below}
 use Rattle.steps.proofs.MarkedPlaceLemmas.{numbers-more, numbers-are, kept-more, kept-same, are-essential}
@@ -36,7 +36,7 @@ loop-place-preserved c =
       numbers,
       elim c.if-marks-place.branch [
         | then-marks-place+in_ok-premises+in_ok-taken+in_ok-push-2 w ↦
-            let ks = essential_of S (get_or rows place no_row).step in
+            let ks = premise_places S (get_or rows place no_row).step in
             let premises : w.deref.result.now ≡ ks = w.deref.ensures.value ∙ w.in_ok-premises.ensures.premises in
             let taken : w.in_ok-taken.taken.items ≡ map (number_of marks) ks =
             w.in_ok-taken.ensures
@@ -47,7 +47,7 @@ loop-place-preserved c =
         | else-marks-place w ↦ subst (λ r. r ≡ map f (marked_before marks (place + 1))) (sym w.kept-is) (kept-same marks f place c.loop-place.kept w.if-marks-place.false is)
       ],
       elim c.if-marks-place.branch [
-        | then-marks-place+in_ok-premises+in_ok-taken+in_ok-push-2 w ↦ rw w.lists-is w.in_ok-premises.ensures.kept
+        | then-marks-place+in_ok-premises+in_ok-taken+in_ok-push-2 w ↦ rw w.lists-is w.in_ok-premises.ensures.lists
         | else-marks-place w ↦ rw w.lists-is c.loop-place.invariant.2
       ],
     )

@@ -1,4 +1,4 @@
-use Rattle.steps.proofs.Words.{◌≡◌, sym, ◌∙◌, ap, length, IfOk-weaker, no_row, taken_by, get_or}
+use Rattle.steps.proofs.Words.{◌≡◌, sym, ◌∙◌, ap, length, IfOk-weaker, no_row, taken_for_essentials, get_or}
 use Rattle.steps.proofs.PremiseLemmas.{asks-all, essential-by, none-essential, never-nothing, follows-at}
 use Rattle.steps.proofs.essential.premises_of.Goals as goal
 
@@ -34,8 +34,8 @@ returns-in_ok-index-in-Assertion-clause-premises c =
     let m = c.in-Assertion.ensures in
     let cited = (c.view_at-cited.ensures m.0 m.1.0).1 in
     let hs = c.view_at-cited.result.hypotheses in
-    IfOk-weaker c.premises_among.result (λ list. list.items ≡ taken_by hs c.taken.result.now) _
-    (λ list e. e ∙ (ap (taken_by hs) c.taken.ensures
+    IfOk-weaker c.premises_among.result (λ list. list.items ≡ taken_for_essentials hs c.taken.result.now) _
+    (λ list e. e ∙ (ap (taken_for_essentials hs) c.taken.ensures
     ∙ sym (essential-by S c.args.at c.args.frames.now.names rows (get_or rows c.args.place no_row) (follows-at S c.args.at c.args.frames.now.names rows c.args.place c.requires.rows c.requires.place) c.position-position.result c.position-position.ensures
     m.0 _ hs m.1 cited.numbered_hypotheses)))
     c.premises_among.ensures

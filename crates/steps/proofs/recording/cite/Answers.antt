@@ -4,8 +4,8 @@ use Rattle.steps.proofs.ConcludingLemmas.{symbol_places-codes}
 use Rattle.steps.proofs.DraftedItemLemmas.{never-nothing}
 use Rattle.steps.proofs.recording.cite.Goals as goal
 
-pub cite_parts-requires-clause-many : goal.cite_parts-requires-clause-many
-cite_parts-requires-clause-many c =
+pub cite_assertion-requires-clause-many : goal.cite_assertion-requires-clause-many
+cite_assertion-requires-clause-many c =
     let p = c.requires.can in
     let q = p.3 in
     let m = c.in-Assertion.ensures in
@@ -13,8 +13,8 @@ cite_parts-requires-clause-many c =
     many c.args.frames.now.statements c.args.at c.args.frames.now.names c.requires.legal c.args.draft.now c.requires.draft p.0 q.0 q.2 c.args.position p.1 (with_groups c.view_at-cited.result v.0) p.2
     (has_with c.args.frames.now.statements c.args.position p.1 m.0 p.0 p.2 m.1) m.2 v.1 q.1 q.3
 
-pub cite_parts-requires-clause-typecodes : goal.cite_parts-requires-clause-typecodes
-cite_parts-requires-clause-typecodes c =
+pub cite_assertion-requires-clause-typecodes : goal.cite_assertion-requires-clause-typecodes
+cite_assertion-requires-clause-typecodes c =
     let p = c.requires.can in
     let q = p.3 in
     let m = c.in-Assertion.ensures in
@@ -22,8 +22,8 @@ cite_parts-requires-clause-typecodes c =
     typecodes-count c.args.frames.now.statements c.args.at c.args.frames.now.names c.requires.legal c.args.draft.now c.requires.draft p.0 q.0 q.2 c.args.position p.1 (with_groups c.view_at-cited.result v.0) p.2
     (has_with c.args.frames.now.statements c.args.position p.1 m.0 p.0 p.2 m.1) m.2 v.1 q.1 q.3
 
-pub cite_parts-requires-clause-different : goal.cite_parts-requires-clause-different
-cite_parts-requires-clause-different c =
+pub cite_assertion-requires-clause-different : goal.cite_assertion-requires-clause-different
+cite_assertion-requires-clause-different c =
     let p = c.requires.can in
     let q = p.3 in
     let m = c.in-Assertion.ensures in
@@ -31,8 +31,8 @@ cite_parts-requires-clause-different c =
     different c.args.frames.now.statements c.args.at c.args.frames.now.names c.requires.legal c.args.draft.now c.requires.draft p.0 q.0 q.2 c.args.position p.1 (with_groups c.view_at-cited.result v.0) p.2
     (has_with c.args.frames.now.statements c.args.position p.1 m.0 p.0 p.2 m.1) m.2 v.1 q.1 q.3
 
-pub cite_parts-requires-clause-typed : goal.cite_parts-requires-clause-typed
-cite_parts-requires-clause-typed c =
+pub cite_assertion-requires-clause-typed : goal.cite_assertion-requires-clause-typed
+cite_assertion-requires-clause-typed c =
     let p = c.requires.can in
     let q = p.3 in
     let m = c.in-Assertion.ensures in
@@ -73,26 +73,26 @@ returns-in_ok-index-in-Assertion-clause-draft c =
     let q = p.3 in
     let m = c.in-Assertion.ensures in
     let v = c.view_at-cited.ensures p.1 p.2.stands in
-    on_ok_weaker c.cite_parts.result
+    on_ok_weaker c.cite_assertion.result
     (λ gives. assertion-draft c.args.frames.now.statements c.args.at c.args.frames.now.names c.requires.legal c.args.draft.now c.requires.draft p.0 q.0 q.2 c.args.position p.1 (with_groups c.view_at-cited.result v.0) p.2
-    (has_with c.args.frames.now.statements c.args.position p.1 m.0 p.0 p.2 m.1) m.2 v.1 q.1 q.3 c.cite_parts.new.draft gives)
-    c.cite_parts.ensures
+    (has_with c.args.frames.now.statements c.args.position p.1 m.0 p.0 p.2 m.1) m.2 v.1 q.1 q.3 c.cite_assertion.new.draft gives)
+    c.cite_assertion.ensures
 
 pub returns-in_ok-index-in-Assertion-clause-done : goal.returns-in_ok-index-in-Assertion-clause-done
 returns-in_ok-index-in-Assertion-clause-done c =
     let m = c.in-Assertion.ensures in
-    on_ok_weaker c.cite_parts.result
+    on_ok_weaker c.cite_assertion.result
     (λ gives label s carries st next tied run.
     let v = c.view_at-cited.ensures s carries.stands in
     assertion-done c.args.frames.now.statements c.args.at c.args.frames.now.names c.requires.legal c.args.draft.now c.requires.draft label st tied c.args.position s (with_groups c.view_at-cited.result v.0) carries
-    (has_with c.args.frames.now.statements c.args.position s m.0 label carries m.1) m.2 v.1 next run c.cite_parts.new.draft gives)
-    c.cite_parts.ensures
+    (has_with c.args.frames.now.statements c.args.position s m.0 label carries m.1) m.2 v.1 next run c.cite_assertion.new.draft gives)
+    c.cite_assertion.ensures
 
 pub places-requires : goal.places-requires
 places-requires c = let p = c.requires.can in stands-within c.args.frames.now.statements c.args.position p.1 p.2.stands
 
-pub cite_parts-requires-clause-symbol_places : goal.cite_parts-requires-clause-symbol_places
-cite_parts-requires-clause-symbol_places c =
+pub cite_assertion-requires-clause-symbol_places : goal.cite_assertion-requires-clause-symbol_places
+cite_assertion-requires-clause-symbol_places c =
     let p = c.requires.can in
     let is = (c.view_at-cited.ensures p.1 p.2.stands).1 in
     symbol_places-codes c.args.frames.now.names _ (expr_of p.1) _ c.requires.legal.distinct is.conclusion_below is.conclusion (c.places.ensures.places p.1 p.2.stands)

@@ -42,7 +42,7 @@ loop-number-preserved c =
         reached-next c.args.frames.now.statements c.args.at c.args.frames.now.names i.0 c.parts-parts.result.numbers.now c.loop-number.number-index c.loop-number.draft c.record_item.new.draft c.loop-number-test.true i.3
             (c.in_ok-record_item.ensures.done i.0 (subst (ArePositions c.args.frames.now.statements i.0) (sym c.deref.ensures.value) i.1)),
       ),
-      c.in_ok-record_item.ensures.kept,
+      c.in_ok-record_item.ensures.lists,
     )
 
 pub returns-clause-steps : goal.returns-clause-steps

@@ -7,6 +7,6 @@ fits (Some len) size room some none = (λ h. omega (arith, some.0, some.1), λ h
 
 pub returns : goal.returns
 returns c =
-    let read = rw (c.as_slice.ensures.symbols, c.subst.view_is) at c.filled_len.ensures in
-    let k = fits c.filled_len.result (length (code_apply c.args.subst.now c.args.expr.now)) _ read.some read.none in
+    let read = rw (c.as_slice.ensures.symbols, c.subst.view_is) at c.applied_len.ensures in
+    let k = fits c.applied_len.result (length (code_apply c.args.subst.now c.args.expr.now)) _ read.some read.none in
     (λ h. let e = k.0 (sym c.is_some.ensures ∙ h) in omega (arith, e, c.len-room.ensures.len, c.len-room.ensures.bound), λ h. c.is_some.ensures ∙ k.1 (omega (arith, h, c.len-room.ensures.len, c.len-room.ensures.bound)))

@@ -7,7 +7,7 @@ returns-in-None c =
     let a = c.args in
     let l = c.loop-symbol in (
       λ h. let e : false ≡ true = h in cc,
-      λ h. absurd (match-fails (images_at a.symbols.now a.images.now) a.expr.now (symbols_in a.symbols.now a.whole) (slice_range a.symbols.now l.at a.whole.end) l.symbol-index c.loop-symbol-test.true l.invariant.1 (rw c.table-table.ensures at c.in-None.ensures.none) h),
+      λ h. absurd (match-fails (images_at a.symbols.now a.images.now) a.expr.now (symbols_in a.symbols.now a.range) (slice_range a.symbols.now l.at a.range.end) l.symbol-index c.loop-symbol-test.true l.invariant.1 (rw c.table-table.ensures at c.in-None.ensures.none) h),
     )
 
 pub loop-symbol-preserved : goal.loop-symbol-preserved
@@ -15,7 +15,7 @@ loop-symbol-preserved c =
     let a = c.args in
     let l = c.loop-symbol in (
       c.in-Some.ensures.some.0,
-      match-goes (images_at a.symbols.now a.images.now) a.expr.now (symbols_in a.symbols.now a.whole) (slice_range a.symbols.now l.at a.whole.end) (slice_range a.symbols.now c.in-Some.next a.whole.end) l.symbol-index c.loop-symbol-test.true l.invariant.1
+      match-goes (images_at a.symbols.now a.images.now) a.expr.now (symbols_in a.symbols.now a.range) (slice_range a.symbols.now l.at a.range.end) (slice_range a.symbols.now c.in-Some.next a.range.end) l.symbol-index c.loop-symbol-test.true l.invariant.1
           (rw c.table-table.ensures at c.in-Some.ensures.some.1),
     )
 
@@ -25,8 +25,8 @@ returns c =
     let l = c.loop-symbol in
     let s = a.symbols.now in
     let applied : List ℕ = code_apply (images_at s a.images.now) a.expr.now in
-    let front : symbols_in s a.whole ≡ applied ++ slice_range s l.at a.whole.end =
-    l.invariant.1 ∙ ap (λ e. code_apply (images_at s a.images.now) e ++ slice_range s l.at a.whole.end) (take_all l.symbol-index a.expr.now c.loop-symbol-test.false) in (
-      λ yes. front ∙ (ap (λ n. applied ++ take n (drop l.at s)) (let none : a.whole.end - l.at ≡ 0 = omega (arith, eqb-true l.at a.whole.end yes) in none) ∙ append-nil applied),
-      λ same. eq-eqb l.at a.whole.end (range-left s applied l.at a.whole.end l.invariant.0 c.requires.place.1 (sym front ∙ same)),
+    let front : symbols_in s a.range ≡ applied ++ slice_range s l.at a.range.end =
+    l.invariant.1 ∙ ap (λ e. code_apply (images_at s a.images.now) e ++ slice_range s l.at a.range.end) (take_all l.symbol-index a.expr.now c.loop-symbol-test.false) in (
+      λ yes. front ∙ (ap (λ n. applied ++ take n (drop l.at s)) (let none : a.range.end - l.at ≡ 0 = omega (arith, eqb-true l.at a.range.end yes) in none) ∙ append-nil applied),
+      λ same. eq-eqb l.at a.range.end (range-left s applied l.at a.range.end l.invariant.0 c.requires.range.1 (sym front ∙ same)),
     )

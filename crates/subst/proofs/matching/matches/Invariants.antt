@@ -3,4 +3,4 @@ use Rattle.subst.proofs.matching.matches.Given as goal
 
 abbrev pub invariant-loop-symbol : goal.invariant-loop-symbol
 invariant-loop-symbol l =
-    (l.at ≤ l.end) × (symbols_in l.symbols l.fn.whole ≡ code_apply (images_at l.symbols l.images) (take l.symbol-index l.expr) ++ slice_range l.symbols l.at l.end)
+    (l.at ≤ l.end) × (symbols_in l.symbols l.fn.range ≡ code_apply (images_at l.symbols l.images) (take l.symbol-index l.expr) ++ slice_range l.symbols l.at l.end)

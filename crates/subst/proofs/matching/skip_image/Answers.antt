@@ -4,10 +4,10 @@ use Rattle.subst.proofs.MatchLemmas.{head-goes, head-fails}
 use Rattle.subst.proofs.matching.skip_image.Goals as goal
 
 pub returns-in-Some-clause-some : goal.returns-in-Some-clause-some
-returns-in-Some-clause-some c = rw (image-some c.args.symbols.now c.args.images.now c.args.symbol c.in-Some.place (sym c.get.ensures ∙ c.in-Some.is)) c.skip_range.ensures.some
+returns-in-Some-clause-some c = rw (image-some c.args.symbols.now c.args.images.now c.args.symbol c.in-Some.range (sym c.get.ensures ∙ c.in-Some.is)) c.skip_range.ensures.some
 
 pub returns-in-Some-clause-none : goal.returns-in-Some-clause-none
-returns-in-Some-clause-none c = rw (image-some c.args.symbols.now c.args.images.now c.args.symbol c.in-Some.place (sym c.get.ensures ∙ c.in-Some.is)) c.skip_range.ensures.none
+returns-in-Some-clause-none c = rw (image-some c.args.symbols.now c.args.images.now c.args.symbol c.in-Some.range (sym c.get.ensures ∙ c.in-Some.is)) c.skip_range.ensures.none
 
 pub returns-in-None-clause-some : goal.returns-in-None-clause-some
 returns-in-None-clause-some c = (

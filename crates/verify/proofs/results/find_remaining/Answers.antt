@@ -22,5 +22,5 @@ returns-in-Ok-clause-remaining c = λ few.
       constants = c.in-Some.places.now.constants;
       long = omega (arith, c.if-expr-lt-LONG_EXPRESSION.false);
       has_constants = subst (λ e. HasConstants (before c.args.frames.now.statements c.args.position) c.args.frames.now.names e c.in-Some.places.now.constants) (sym is.same) (rw c.in-Some.is at (c.places.ensures.constants s is.stands refl));
-      has_listed = c.in-Ok.ensures.left few;
+      has_listed = c.in-Ok.ensures.found few;
     }

@@ -17,4 +17,4 @@ returns-then-value-bound-clause-none c =
         | else-count_ended-eq1 w ↦ rw e (omega (arith, w.bound-is, c.if-value-bound.true))
       ]
     ] in
-    over_limit state.limit c.args.digits_limit state.digits c.args.byte c.requires.begun c.requires.beyond c.requires.digits_limit (rw c.requires.value at over)
+    over_limit state.limit c.args.digits_limit state.digits c.args.byte c.requires.digits_in_range c.requires.no_overflow c.requires.digits_limit (rw c.requires.value at over)

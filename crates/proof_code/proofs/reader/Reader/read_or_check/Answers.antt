@@ -1,4 +1,4 @@
-use Rattle.proof_code.proofs.Words.{arith, ap, length, take, with_items_is, ◌≡◌, ◌+◌, ◌∷◌, refl, sym, begin}
+use Rattle.proof_code.proofs.Words.{arith, ap, length, take, with_items_is, ◌≡◌, ◌+◌, ◌∷◌, refl, sym, left_parenthesis}
 use Rattle.proof_code.proofs.ListingLemmas.{listing-none, listing-some}
 use Rattle.proof_code.proofs.WritesLemmas.{begins, without_header}
 use Rattle.proof_code.proofs.ReadProofLemmas.{marked_first, unnumbered, heading}
@@ -20,7 +20,7 @@ returns-in_err-check_letters-clause-read c =
 
 pub returns-then-is_err-clause-read : goal.returns-then-is_err-clause-read
 returns-then-is_err-clause-read c =
-    let starts : c.args.tokens.now ≡ begin ∷ c.next.new.self = begins _ _ _ c.next.result c.next.ensures.steps c.iter-words.ensures.words c.requires.compressed in
+    let starts : c.args.tokens.now ≡ left_parenthesis ∷ c.next.new.self = begins _ _ _ c.next.result c.next.ensures.steps c.iter-words.ensures.words c.requires.compressed in
     let found = listing-some c.next.new.self c.as_text.result.now _ _ c.as_text.ensures.words c.as_text.ensures.text c.in_ok-count.ensures.listed_count in
     let read = c.in_ok-check_letters.ensures in
     (starts, read.0, heading _ _ _ _ starts c.iter-words.ensures.visible found c.args.mandatory (c.args.mandatory + c.in_ok-count.count) refl read.0 (sym c.if-starts_with_mark.ensures) read.1, tt)
@@ -32,7 +32,7 @@ returns-in_err-self-inside-clause-read c =
 
 pub returns-clause-read : goal.returns-clause-read
 returns-clause-read c =
-    let starts : c.args.tokens.now ≡ begin ∷ c.next.new.self = begins _ _ _ c.next.result c.next.ensures.steps c.iter-words.ensures.words c.requires.compressed in
+    let starts : c.args.tokens.now ≡ left_parenthesis ∷ c.next.new.self = begins _ _ _ c.next.result c.next.ensures.steps c.iter-words.ensures.words c.requires.compressed in
     let found = listing-some c.next.new.self c.as_text.result.now _ _ c.as_text.ensures.words c.as_text.ensures.text c.in_ok-count.ensures.listed_count in (
       starts,
       _,

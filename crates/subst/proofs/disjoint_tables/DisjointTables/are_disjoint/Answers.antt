@@ -8,12 +8,12 @@ use Rattle.subst.proofs.disjoint_tables.DisjointTables.are_disjoint.Goals as goa
 
 pub returns-in_err-one-clause-tables : goal.returns-in_err-one-clause-tables
 returns-in_err-one-clause-tables c =
-    tables-read c.args.pairs.now c.args.symbols.now c.args.self.now c.image_of.new.variables c.image_of.new.self c.args.self.now.before c.requires.tables c.image_of.ensures.placed c.image_of.ensures.grows c.image_of.ensures.recorded
+    tables-read c.args.pairs.now c.args.symbols.now c.args.self.now c.image_of.new.variables c.image_of.new.self c.args.self.now.earlier_places c.requires.tables c.image_of.ensures.placed c.image_of.ensures.grows c.image_of.ensures.recorded
 
 pub returns-in_err-other-clause-tables : goal.returns-in_err-other-clause-tables
 returns-in_err-other-clause-tables c =
     let grows = grows-twice c.args.self.now.variables c.image_of.new.variables c.image_of-2.new.variables c.image_of.ensures.grows c.image_of-2.ensures.grows in
-    tables-read c.args.pairs.now c.args.symbols.now c.args.self.now c.image_of-2.new.variables c.image_of-2.new.self c.args.self.now.before c.requires.tables c.image_of-2.ensures.placed grows c.image_of-2.ensures.recorded
+    tables-read c.args.pairs.now c.args.symbols.now c.args.self.now c.image_of-2.new.variables c.image_of-2.new.self c.args.self.now.earlier_places c.requires.tables c.image_of-2.ensures.placed grows c.image_of-2.ensures.recorded
 
 pub returns-in_err-other-clause-grows : goal.returns-in_err-other-clause-grows
 returns-in_err-other-clause-grows c =

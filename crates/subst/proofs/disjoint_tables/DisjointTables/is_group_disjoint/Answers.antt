@@ -1,4 +1,4 @@
-use Rattle.subst.proofs.Words.{below-take, ◌+◌, sym, ◌∙◌, length, subst, below-at, images_at, image_named, AddsWords, HasPlace, IsIn, DecidesEach, true, false}
+use Rattle.subst.proofs.Words.{below-take, ◌+◌, sym, ◌∙◌, length, subst, below-at, images_at, image_named, AddsWords, HasPlace, RangeHasPlace, DecidesWordsAndWords, true, false}
 use Rattle.subst.proofs.VariablePlaceLemmas.{places-below, places-same}
 use Rattle.subst.proofs.DisjointRowLemmas.{facts-grown}
 use Rattle.subst.proofs.ImageVariableLemmas.{listed-in}
@@ -12,7 +12,7 @@ image_of-requires-clause-number c = below-at (length c.args.pairs.now.names) c.a
 
 pub returns-in_err-range-clause-tables : goal.returns-in_err-range-clause-tables
 returns-in_err-range-clause-tables c =
-    tables-read c.args.pairs.now c.args.symbols.now c.loop-index.self c.image_of.new.variables c.image_of.new.self c.loop-index.self.before c.loop-index.invariant.0 c.image_of.ensures.placed c.image_of.ensures.grows c.image_of.ensures.recorded
+    tables-read c.args.pairs.now c.args.symbols.now c.loop-index.self c.image_of.new.variables c.image_of.new.self c.loop-index.self.earlier_places c.loop-index.invariant.0 c.image_of.ensures.placed c.image_of.ensures.grows c.image_of.ensures.recorded
 
 pub returns-in_err-add_words-clause-tables : goal.returns-in_err-add_words-clause-tables
 returns-in_err-add_words-clause-tables c =
@@ -41,7 +41,7 @@ are_disjoint-requires-clause-there c =
     let words = c.image_of.new.self.words in
     let r = c.in_ok-range.range in
     let own = c.in_ok-range.ensures.range in
-    rw c.words_in-words.ensures (λ j h. places-below c.args.pairs.now f (IsIn words r) _ own.are j (listed-in words r j own.low own.high h))
+    rw c.words_in-words.ensures (λ j h. places-below c.args.pairs.now f (RangeHasPlace words r) _ own.are j (listed-in words r j own.low own.high h))
 
 pub are_disjoint-requires-clause-others : goal.are_disjoint-requires-clause-others
 are_disjoint-requires-clause-others c = rw c.as_slice-else-is_costly.ensures (λ j h. (let o = c.loop-index.invariant.2.only j h in (c.image_of.ensures.grows.each j o.0 o.2).there))
@@ -53,10 +53,10 @@ returns-then-not-contains-clause-disjoint c =
     let σ = images_at c.args.symbols.now c.args.images.now in
     let l = c.loop-index in
     let group = c.args.group.now in
-    let set = l.self.before in
+    let set = l.self.earlier_places in
     let first = places-same v l.self.variables f (HasPlace set) (HasPlace set) (IsInImages σ group l.index) c.image_of.ensures.grows (λ j h. h) (λ j h. h) l.invariant.2 in
-    let told = subst (λ us. DecidesEach v f c.words_in-words.result.now us false) c.as_slice-else-is_costly.ensures (rw c.if-branch.false at c.in_ok-are_disjoint.ensures.decides) in
-    let clash = next-clash v f c.image_of.ensures.placed σ group l.index c.image_of.new.self.words c.in_ok-range.range set first c.in_ok-range.ensures.range (subst (λ xs. DecidesEach v f xs set false) c.words_in-words.ensures told) in
+    let told = subst (λ us. DecidesWordsAndWords v f c.words_in-words.result.now us false) c.as_slice-else-is_costly.ensures (rw c.if-branch.false at c.in_ok-are_disjoint.ensures.decides) in
+    let clash = next-clash v f c.image_of.ensures.placed σ group l.index c.image_of.new.self.words c.in_ok-range.range set first c.in_ok-range.ensures.range (subst (λ xs. DecidesWordsAndWords v f xs set false) c.words_in-words.ensures told) in
     sym (held-clash v.statements (image_named v.names σ) group l.index clash.0 clash.1 c.loop-index-test.true clash.2 (sym c.contains.ensures ∙ c.if-not-contains.true))
 
 pub loop-index-preserved : goal.loop-index-preserved
@@ -67,7 +67,7 @@ loop-index-preserved c =
     let l = c.loop-index in
     let n = l.index in
     let group = c.args.group.now in
-    let set = l.self.before in
+    let set = l.self.earlier_places in
     let words = c.image_of.new.self.words in
     let r = c.in_ok-range.range in
     let own = c.in_ok-range.ensures.range in
@@ -81,23 +81,23 @@ loop-index-preserved c =
           rw w.self-is (
             w.is_disjoint.ensures.tables,
             w.is_disjoint.ensures.read,
-            rw w.is_disjoint.ensures.before
+            rw w.is_disjoint.ensures.earlier_places
                 (places-same v f w.is_disjoint.new.self.variables (HasPlace w.add_words.new.self) (HasPlace w.add_words.new.self) (IsInImages σ group (n + 1)) w.is_disjoint.ensures.grows (λ j h. h) (λ j h. h) more),
             pairwise-next v.statements image group n c.loop-index-test.true l.invariant.3 (sym w.in_ok-is_disjoint.ensures.disjoint ∙ w.if-not-branch.false),
           )
       | else-is_costly+in_ok-are_disjoint+then-branch+in_ok-add_words-2 w ↦
-          let told = subst (λ us. DecidesEach v f c.words_in-words.result.now us true) w.as_slice-else-is_costly.ensures (rw w.if-branch.true at w.in_ok-are_disjoint.ensures.decides) in
+          let told = subst (λ us. DecidesWordsAndWords v f c.words_in-words.result.now us true) w.as_slice-else-is_costly.ensures (rw w.if-branch.true at w.in_ok-are_disjoint.ensures.decides) in
           let adds = subst (AddsWords set w.add_words-then-branch.new.self) c.words_in-words.ensures w.in_ok-add_words-2.ensures in
           rw w.self-is (
-            record { placed = placed; recorded = c.image_of.ensures.recorded; facts = w.are_disjoint.ensures.facts; found = l.invariant.0.found },
+            record { placed = placed; recorded = c.image_of.ensures.recorded; facts = w.are_disjoint.ensures.facts; image_pairs = l.invariant.0.image_pairs },
             c.image_of.ensures.read,
             images-more v f placed σ group n words r set first own w.add_words-then-branch.new.self adds,
-            pairwise-more v.statements image group n l.invariant.3 (next-disjoint v f placed σ group n words r set first own (subst (λ xs. DecidesEach v f xs set true) c.words_in-words.ensures told)),
+            pairwise-more v.statements image group n l.invariant.3 (next-disjoint v f placed σ group n words r set first own (subst (λ xs. DecidesWordsAndWords v f xs set true) c.words_in-words.ensures told)),
           )
       | else-is_costly+in_ok-are_disjoint+else-branch+else-not-contains w ↦
           let any = sym w.contains.ensures ∙ w.if-not-contains.false in
           rw w.self-is (
-            record { placed = placed; recorded = c.image_of.ensures.recorded; facts = w.are_disjoint.ensures.facts; found = l.invariant.0.found },
+            record { placed = placed; recorded = c.image_of.ensures.recorded; facts = w.are_disjoint.ensures.facts; image_pairs = l.invariant.0.image_pairs },
             c.image_of.ensures.read,
             repeat-images v f σ group n (HasPlace set) any first,
             repeat-pairwise v.statements image group n any l.invariant.3,

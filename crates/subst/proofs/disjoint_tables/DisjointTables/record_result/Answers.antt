@@ -20,9 +20,9 @@ seen-first symbols images e p x rest whole first own = whole ∙ (ap (code_apply
 pub loop-index-init : goal.loop-index-init
 loop-index-init c =
     let t = c.requires.tables in (
-      record { placed = t.placed; recorded = rw c.begin.ensures (recorded-begin c.args.pairs.now c.args.self.now.variables c.args.symbols.now c.args.self.now.images t.recorded); facts = t.facts; found = t.found },
-      rest-own c.begin.new.self,
-      symbols-none c.args.pairs.now c.args.self.now.variables (HasPlace c.begin.new.self.list) [],
+      record { placed = t.placed; recorded = rw c.begin_citation.ensures (recorded-begin c.args.pairs.now c.args.self.now.variables c.args.symbols.now c.args.self.now.images t.recorded); facts = t.facts; image_pairs = t.image_pairs },
+      rest-own c.begin_citation.new.self,
+      symbols-none c.args.pairs.now c.args.self.now.variables (HasPlace c.begin_citation.new.self.current) [],
     )
 
 pub add_image-requires-clause-number : goal.add_image-requires-clause-number
@@ -46,7 +46,7 @@ returns-in_err-add_image c =
       placed = c.add_image.ensures.placed;
       recorded = recorded-most v l.self.variables c.add_image.new.variables c.args.symbols.now l.self.images c.add_image.new.self c.add_image.ensures.grows (rest-most l.self.images c.add_image.new.self keeps) t.recorded;
       facts = facts-grown v l.self.variables c.add_image.new.variables l.self.rows c.add_image.ensures.grows t.facts;
-      found = t.found;
+      image_pairs = t.image_pairs;
     }
 
 pub loop-index-preserved : goal.loop-index-preserved
@@ -65,11 +65,11 @@ loop-index-preserved c =
         placed = c.add_image.ensures.placed;
         recorded = recorded-most v l.self.variables g c.args.symbols.now l.self.images new c.add_image.ensures.grows (rest-most l.self.images new keeps) t.recorded;
         facts = facts-grown v l.self.variables g l.self.rows c.add_image.ensures.grows t.facts;
-        found = t.found;
+        image_pairs = t.image_pairs;
       },
-      rest-twice c.begin.new.self l.self.images new l.invariant.1 keeps,
-      subst (AddsImage v g c.begin.new.self new) (sym (apply-take σ rest n c.loop-index-test.true))
-          (symbols-joined v l.self.variables g (HasPlace c.begin.new.self.list) (HasPlace l.self.images.list) (HasPlace new.list) (code_apply σ (take n rest)) (code_image σ (get_or rest n 0)) c.add_image.ensures.grows l.invariant.2 added),
+      rest-twice c.begin_citation.new.self l.self.images new l.invariant.1 keeps,
+      subst (AddsImage v g c.begin_citation.new.self new) (sym (apply-take σ rest n c.loop-index-test.true))
+          (symbols-joined v l.self.variables g (HasPlace c.begin_citation.new.self.current) (HasPlace l.self.images.current) (HasPlace new.current) (code_apply σ (take n rest)) (code_image σ (get_or rest n 0)) c.add_image.ensures.grows l.invariant.2 added),
     )
 
 pub loop-index-preserved-then-branch : goal.loop-index-preserved-then-branch
@@ -79,8 +79,8 @@ loop-index-preserved-then-branch c =
     let n = l.index in
     let rest = rest_of c.args.expr.now in
     let σ = images_at c.args.symbols.now c.args.images.now in
-    let stands = c.in_ok-occurs_earlier.ensures.stands c.if-branch.true in
-    rw c.occurs_earlier.ensures.same (l.invariant.0, l.invariant.1, symbol-again v l.self.variables (HasPlace c.begin.new.self.list) (HasPlace l.self.images.list) σ rest stands.0 n stands.1 c.loop-index-test.true stands.2 l.invariant.2)
+    let stands = c.in_ok-occurs_earlier.ensures.earlier c.if-branch.true in
+    rw c.occurs_earlier.ensures.same (l.invariant.0, l.invariant.1, symbol-again v l.self.variables (HasPlace c.begin_citation.new.self.current) (HasPlace l.self.images.current) σ rest stands.0 n stands.1 c.loop-index-test.true stands.2 l.invariant.2)
 
 pub without_first-requires : goal.without_first-requires
 without_first-requires c =
@@ -98,9 +98,9 @@ returns c =
     let e = c.args.expr.now in
     let x = get_or e 0 0 in
     let rest = rest_of e in
-    let old = c.begin.new.self in
+    let old = c.begin_citation.new.self in
     let own = image-none c.args.symbols.now c.args.images.now x (sym c.get.ensures ∙ not-some c.get.result (sym c.is_some.ensures ∙ c.if-is_some.false)) in
     let all = take_all l.index rest c.loop-index-test.false in
     let adds = subst (λ r. AddsImage v l.self.variables old l.self.images (code_apply σ r)) all l.invariant.2 in
-    tables-recorded v c.args.symbols.now l.self c.record_image.new.self c.args.result_range c.without_first.result x (code_apply σ rest) l.invariant.0 (rw c.begin.ensures at adds) c.record_image.ensures c.requires.range.0 c.requires.range.1 c.without_first.ensures.0 c.without_first.ensures.1
+    tables-recorded v c.args.symbols.now l.self c.record_long_image.new.self c.args.result_range c.without_first.result x (code_apply σ rest) l.invariant.0 (rw c.begin_citation.ensures at adds) c.record_long_image.ensures c.requires.range.0 c.requires.range.1 c.without_first.ensures.0 c.without_first.ensures.1
     (seen-first c.args.symbols.now c.args.images.now e c.args.result_range x rest c.requires.whole (whole-rest e (sym c.is_empty.ensures ∙ c.if-is_empty.false)) own)

@@ -1,4 +1,4 @@
-use Rattle.subst.proofs.Words.{take, code_apply, images_at, AddsImage, AreTables, ChangesOnlyList}
+use Rattle.subst.proofs.Words.{take, code_apply, images_at, AddsImage, AreTables, ChangesOnlyCurrent}
 use Rattle.subst.proofs.DisjointTableLemmas.{rest_of}
 use Rattle.subst.proofs.disjoint_tables.DisjointTables.record_result.Given as goal
 
@@ -6,5 +6,5 @@ use Rattle.subst.proofs.disjoint_tables.DisjointTables.record_result.Given as go
 abbrev pub invariant-loop-index : goal.invariant-loop-index
 invariant-loop-index l =
     AreTables l.pairs l.symbols l.self
-    × ChangesOnlyList l.initial.self.images l.self.images
+    × ChangesOnlyCurrent l.initial.self.images l.self.images
     × AddsImage l.pairs l.self.variables l.initial.self.images l.self.images (code_apply (images_at l.symbols l.images) (take l.index (rest_of l.expr)))

@@ -6,4 +6,4 @@ pub invariant_of-self : goal.invariant_of-self
 invariant_of-self c = (omega arith, up_to-later c.self.inside.round _ c.self.inside.rounds.items c.self.invariant.1 (omega arith), c.self.invariant.2)
 
 pub returns-then-self-lt4294967295 : goal.returns-then-self-lt4294967295
-returns-then-self-lt4294967295 c = placed-later c.self.inside.round _ 0 c.self.inside.rounds.items c.self.inside.places.items c.self.invariant.1 (omega arith)
+returns-then-self-lt4294967295 c = placed-later c.self.inside.round _ 0 c.self.inside.rounds.items c.self.inside.ranges.items c.self.invariant.1 (omega arith)

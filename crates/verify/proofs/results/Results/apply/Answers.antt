@@ -29,8 +29,8 @@ over-more xs ys zs ps names inside same over n less =
 pub record_result-requires-clause-about : goal.record_result-requires-clause-about
 record_result-requires-clause-about c = ap (λ v. v.about) c.self.view_is ∙ c.requires.about
 
-pub record_result-requires-clause-over : goal.record_result-requires-clause-over
-record_result-requires-clause-over c = recorded-more _ _ _ _ c.self.invariant.recorded (appended _ _ _ _ _ c.if-not-branch.false c.in_ok-add_applied.ensures.ok).0
+pub record_result-requires-clause-symbols : goal.record_result-requires-clause-symbols
+record_result-requires-clause-symbols c = recorded-more _ _ _ _ c.self.invariant.recorded (appended _ _ _ _ _ c.if-not-branch.false c.in_ok-add_applied.ensures.ok).0
 
 pub record_result-requires-clause-named : goal.record_result-requires-clause-named
 record_result-requires-clause-named c =
@@ -42,8 +42,8 @@ record_result-requires-clause-inside c =
     let g = appended _ _ _ _ _ c.if-not-branch.false c.in_ok-add_applied.ensures.ok in
     inside-more (length c.self.inside.symbols) _ c.self.inside.images (omega (arith, ap length g.0, length-append c.self.inside.symbols (code_apply (images_at c.self.inside.symbols c.self.inside.images) c.args.expr.now))) c.self.invariant.kept.images_inside
 
-pub record_result-requires-clause-place : goal.record_result-requires-clause-place
-record_result-requires-clause-place c =
+pub record_result-requires-clause-range : goal.record_result-requires-clause-range
+record_result-requires-clause-range c =
     new-place c.self.inside.symbols _ _ c.range_between-place.result (appended _ _ _ _ _ c.if-not-branch.false c.in_ok-add_applied.ensures.ok).0
     (c.range_between-place.ensures.0 ∙ c.len-start.ensures.len) (c.range_between-place.ensures.1 ∙ c.len-2.ensures.len)
 
@@ -61,7 +61,7 @@ invariant_of-self-in_err-record_result c =
       kept =
           grown-kept c.self.inside.symbols _ _ c.self.inside.images c.self.inside.stack.items c.self.inside.saved.items c.self.inside.weight _ c.self.invariant.kept g.0
           (ap (λ n. c.self.inside.weight + n) more) (end_light c.self.inside.weight _ c.len-start.result c.len-3.result _ (omega (arith, c.min-room.ensures)) c.self.invariant.kept.light more g.1);
-      recorded = c.record_result.ensures.over;
+      recorded = c.record_result.ensures.symbols;
     }
 
 pub invariant_of-self-in_err-truncate_and_push : goal.invariant_of-self-in_err-truncate_and_push
@@ -73,7 +73,7 @@ invariant_of-self-in_err-truncate_and_push c =
           apply-cut c.self.inside.symbols _ _ c.self.inside.images c.self.inside.stack.items c.self.inside.saved.items _ c.self.inside.weight _ (c.len.result - c.args.count) c.self.invariant.kept g.0
           c.in_err-truncate_and_push.ensures.err
           (ap (λ n. c.self.inside.weight + n) more) (end_light c.self.inside.weight _ c.len-start.result c.len-3.result _ (omega (arith, c.min-room.ensures)) c.self.invariant.kept.light more g.1);
-      recorded = c.record_result.ensures.over;
+      recorded = c.record_result.ensures.symbols;
     }
 
 pub invariant_of-self-2 : goal.invariant_of-self-2
@@ -85,7 +85,7 @@ invariant_of-self-2 c =
           apply-kept c.self.inside.symbols _ _ c.self.inside.images c.self.inside.stack.items c.self.inside.saved.items _ c.self.inside.weight _ (c.len.result - c.args.count) c.range_between-place.result c.self.invariant.kept g.0
           (c.range_between-place.ensures.0 ∙ c.len-start.ensures.len) (c.range_between-place.ensures.1 ∙ c.len-2.ensures.len) c.in_ok-truncate_and_push.ensures.ok
           (ap (λ n. c.self.inside.weight + n) more) (end_light c.self.inside.weight _ c.len-start.result c.len-3.result _ (omega (arith, c.min-room.ensures)) c.self.invariant.kept.light more g.1);
-      recorded = c.record_result.ensures.over;
+      recorded = c.record_result.ensures.symbols;
     }
 
 pub returns-clause-adds : goal.returns-clause-adds

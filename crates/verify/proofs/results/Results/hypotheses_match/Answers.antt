@@ -14,8 +14,8 @@ expr-expr-requires c =
     let s = present-at c.args.frames.now.statements c.args.hypotheses.now c.loop-k.k (Essential c.in-Essential.position) c.requires.present (c.get.ensures ∙ ap Some c.in-Essential.is) in
     stands-within c.args.frames.now.statements c.in-Essential.position s.0 s.1
 
-pub matches-requires-clause-place : goal.matches-requires-clause-place
-matches-requires-clause-place c = (seen_place c.self.inside.symbols c.self.inside.stack.items c.deref.result.now c.args.self.now.results.stack (c.len.result - c.len-2.result) c.len-2.result c.loop-k.k _ c.deref.ensures.value (ap (λ v. v.results.stack) c.self.view_is) (omega (arith, c.len.ensures)) (omega (arith, c.requires.count, c.len-2.ensures)) (let w = slice_get_within c.args.hypotheses.now c.loop-k.k c.get.result c.get.ensures in omega (arith, w, c.len-2.ensures)) c.self.invariant.kept.stack_within).0
+pub matches-requires-clause-range : goal.matches-requires-clause-range
+matches-requires-clause-range c = (seen_place c.self.inside.symbols c.self.inside.stack.items c.deref.result.now c.args.self.now.results.stack (c.len.result - c.len-2.result) c.len-2.result c.loop-k.k _ c.deref.ensures.value (ap (λ v. v.results.stack) c.self.view_is) (omega (arith, c.len.ensures)) (omega (arith, c.requires.count, c.len-2.ensures)) (let w = slice_get_within c.args.hypotheses.now c.loop-k.k c.get.result c.get.ensures in omega (arith, w, c.len-2.ensures)) c.self.invariant.kept.stack_within).0
 
 pub returns-then-not-matches : goal.returns-then-not-matches
 returns-then-not-matches c =

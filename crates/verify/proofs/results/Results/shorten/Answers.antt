@@ -21,5 +21,5 @@ returns-in-Some-found-clause-same c = rw (← c.self.view_is) ((rw (c.in-Ok.is, 
 
 pub returns-in-Some-found-clause-below : goal.returns-in-Some-found-clause-below
 returns-in-Some-found-clause-below c =
-    let left = rw (c.in-Ok.is, c.in-Some-found.is) at c.find_nonempty.ensures.left in
+    let left = rw (c.in-Ok.is, c.in-Some-found.is) at c.find_nonempty.ensures.found in
     subst (AreBelow (length c.args.frames.now.names)) (sym left) (some-below (length c.args.frames.now.names) (has_nonempty_image c.self.inside.images) c.args.expr.now c.requires.below)

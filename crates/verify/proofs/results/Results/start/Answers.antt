@@ -7,7 +7,7 @@ invariant_of-self-2 c = record {
   kept =
       cleared-kept c.truncate.new.self c.clear.new.self c.clear-2.new.self.items _ c.truncate.ensures c.clear.ensures c.clear-2.ensures.items
       (subst (AreWithin 0) (sym (resized-none c.args.label_count _ _ _ c.clear-3.ensures.items c.clear-3.ensures.len c.in_ok-resize.ensures.items)) (within-none c.args.label_count 0));
-  recorded = rw c.begin.ensures (recorded-none [] c.truncate.new.self refl);
+  recorded = rw c.begin_proof.ensures (recorded-none [] c.truncate.new.self refl);
 }
 
 pub returns-clause-results : goal.returns-clause-results

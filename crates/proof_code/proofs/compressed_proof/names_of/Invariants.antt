@@ -1,5 +1,0 @@
-use Rattle.proof_code.proofs.LabelNameLemmas.{NamesTo}
-use Rattle.proof_code.proofs.compressed_proof.names_of.Given as goal
-
-abbrev pub invariant-loop-label : goal.invariant-loop-label
-invariant-loop-label l = NamesTo l.labels l.left l.names

@@ -1,6 +1,0 @@
-use Rattle.std.proofs.Common.{Some}
-use Rattle.steps.proofs.KnownMapLemmas.{others-same}
-use Rattle.steps.proofs.known.keep.Goals as goal
-
-pub returns-clause-others : goal.returns-clause-others
-returns-clause-others c = λ x ne. others-same c.args.key.items c.args.known.now c.insert.new.self (Some c.args.place) c.in_ok-insert.ensures.updates x ne
