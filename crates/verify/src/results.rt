@@ -553,7 +553,12 @@ fn list_symbol(
 
 /// Finds those symbols of the expression of the `$e` at a position that are constants or are listed for it, and returns whether
 /// the expression is long and these are few. Returns `false` if an allocation fails.
-fn find_remaining(frames: &Frames, position: u32, expr: &[u32], remaining: &mut RemainingSymbols) -> bool
+fn find_remaining(
+    frames: &Frames,
+    position: u32,
+    expr: &[u32],
+    remaining: &mut RemainingSymbols,
+) -> bool
     requires distinct { AreDistinct frames.now.names }
     requires below { AreBelow (length frames.now.names) expr.now }
     requires stands { (label : Name) × (e : Expr) × IsExprAt frames.now.statements frames.now.names position expr.now (Ess label e) }
