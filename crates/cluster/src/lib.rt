@@ -3,9 +3,10 @@
 //! returns both.
 //!
 //! A call with `_on` in its name acts on a switch or on cells that the caller lends, such as values
-//! under locks. Each of `begin_on`, `offer_on`, `deliver_on` and `restart_on` plays one event after a
-//! history that is taken; the event itself may be refused (`Plays` of `switch/specs/Switch.antt`).
-//! Every switch meets the clauses of `Switch::history`, and every cell those of `NodeCell::library`.
+//! under locks. Each of `begin_on`, `offer_on`, `deliver_on` and `restart_on` plays one event after
+//! a history that is taken; the event itself may be refused (`Plays` of
+//! `switch/specs/Switch.antt`). Every switch meets the clauses of `Switch::history`, and every cell
+//! those of `NodeCell::library`.
 //!
 //! Do not confuse two words: an entry is taken over into a cell (`take_on`), and a history is taken
 //! if none of its events is refused (the clauses named `taken`).

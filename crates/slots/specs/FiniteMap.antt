@@ -31,8 +31,8 @@ front_of xs = length (entries_to_gap xs)
 abbrev pub top_of : {T : Type 0} → List (Option T) → ℕ
 top_of xs = length xs
 
--- a slot put before a trimmed list: the empty list if the slot and the list are empty. It removes no
--- slot of the list.
+-- a slot put before a trimmed list: the empty list if the slot and the list are empty. It removes
+-- no slot of the list.
 abbrev pub trim_head : {T : Type 0} → Option T → List (Option T) → List (Option T)
 trim_head None [] = []
 trim_head None (y ∷ ys) = None ∷ y ∷ ys
