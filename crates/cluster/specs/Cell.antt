@@ -1,4 +1,5 @@
--- The cell of a node: the entries that it has taken over from its log, and the library of those that it applied.
+-- The cell of a node: the entries taken over from the node's log, and the library of the first of
+-- them, those applied.
 -- Source: Lamport, Paxos Made Simple, section 3: a server executes the commands in the order of their numbers.
 -- `nodes` keeps a cell and the switch under two locks; `belongs` tests whether the entries are a prefix of the log.
 use Rattle.std.specs.Prelude.{◌≡◌, ℕ, ◌+◌, ◌≤◌, Bool, true, false, List, [], ◌∷◌, ◌++◌, Option, Some, None, Result, Ok, Err, length, slice_get}

@@ -26,6 +26,7 @@ IsOutcomeGiven (Some verdict) first entry outcome =
     ((first ≡ Some (record { 0 = entry })) × (outcome ≡ Some verdict))
     ⊎ ((first ≡ Some (record { 0 = entry }) → ⊥) × (outcome ≡ Some Repeat))
 
+-- the outcome of an entry in a cell, from the verdicts of its library and the entries taken over
 abbrev pub IsOutcomeOf : Cell → Entry → Option Verdict → Type 0
 IsOutcomeOf cell entry outcome =
     IsOutcomeGiven (status cell.node_library.library.decided (author_of entry) (serial_of entry)) (first_with_key entry cell.entries) entry outcome

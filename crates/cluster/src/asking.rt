@@ -33,7 +33,8 @@ pub fn ask_on<T, F: FnOnce(&NodeCell) -> T + Drop>(
 /// Returns the verdict of the cell's library on the entry, or `Repeat` if the library decided another entry under the
 /// same author and serial number. Returns `None` if it decided none.
 ///
-/// Cost: that of `Library::status`; if there is a verdict, one pass over the entries taken over.
+/// Cost: that of `Library::status`; if there is a verdict, one pass over the entries taken over,
+/// and one comparison of two entries.
 pub fn outcome_on(cell: &NodeCell, entry: &Entry) -> Option<Verdict>
     ensures outcome { IsOutcomeOf cell.now entry.now result }
 {

@@ -23,7 +23,8 @@ use synod::{Keep, Weights, copy_value};
 use verify_pool::{Gate, PoolSize};
 use world::{Carried, NodeLibrary};
 
-/// The entries that a node has taken over from its log, and the library of those applied, the first of them.
+/// The entries taken over from a node's log, and the library of the first of them, those applied. A
+/// `Carried` wraps an entry of a library as a value that the nodes agree on.
 ///
 /// Contracts see the node's number, those entries, the count applied and what the library holds.
 #[derive(Drop)]
@@ -116,7 +117,8 @@ pub fn belongs<K: Keep<Carried>>(cell: &NodeCell, switch: &Switch<Carried, K>) -
     is_log_prefix(switch, cell.node, &cell.entries)
 }
 
-/// Takes over the next entry of the node's log, and returns whether there is one.
+/// Takes over the next entry of the node's log, and returns whether there is one. The clause
+/// `taken` is about the history of the switch, not about the entry.
 ///
 /// Errors: `NoNode` if the switch has no such node; else `Memory` if an allocation fails. Nothing is then taken over.
 /// Cost: one copy of an entry.
@@ -137,7 +139,8 @@ pub fn take_on<K: Keep<Carried>>(
     add_entry(&mut cell.entries, next)
 }
 
-/// Appends a copy of the next entry, and returns whether there is one.
+/// Appends a copy of the next entry, and returns whether there is one. (`next.entry` in the clause
+/// is the parameter `next` as the call begins, not a field.)
 fn add_entry(
     entries: &mut Vec<Option<Carried>>,
     next: Option<&Option<Carried>>,
@@ -167,9 +170,9 @@ pub fn apply_on(cell: &mut NodeCell) -> Result<Option<Verdict>, StepFault>
     cell.node_library.apply_next(next)
 }
 
-/// Applies the next of the entries taken over as `apply_on` does, with its proofs checked by workers in parallel. Each
-/// worker passes the gate before each proof. The verdict does not depend on the number of workers; whether `Memory` is
-/// returned may.
+/// Applies the next of the entries taken over as `apply_on` does, with its proofs checked by
+/// workers in parallel, on threads that `rt` starts. Each worker calls `Gate::pass` before each
+/// proof. The number of workers can change only whether `Memory` is returned.
 ///
 /// Errors: those of `apply_on`; `Memory` may also be returned if a proof is too heavy for a worker and the gate keeps
 /// heavy proofs out (`Gate::admits_heavy`). Cost: that of `Library::apply_with` on the entry.

@@ -38,7 +38,8 @@ pub fn compare_on<K: Keep<Carried>>(
     ahead_of(one.library(), other.library())
 }
 
-/// Returns which of two libraries has more statements, if the statements of one are a prefix of those of the other.
+/// Returns which of two libraries has more statements. The statements of one have to be a prefix of
+/// those of the other.
 fn ahead_of(one: &Library, other: &Library) -> Ahead
     requires { Agree one.now.replica.statements other.now.replica.statements }
     ensures { IsAhead result one.now.replica.statements other.now.replica.statements }

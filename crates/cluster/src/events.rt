@@ -1,4 +1,5 @@
-//! The four events of a node, each played by one call on a switch that the caller lends.
+//! The four events of a node, each played by one call on a switch that the caller lends. The
+//! clauses take the size of a value in bytes: `V.bytes`, which is `carried_size` for a `Carried`.
 ghost use Rattle.std.specs.Prelude.{◌≡◌, OnOk, OnErr};
 ghost use Rattle.net.specs.declared.event.Event.TheVariants.{Offer, Begin, Deliver, Restart};
 ghost use Rattle.switch.specs.Switch.{Plays};

@@ -50,7 +50,8 @@ fn has_entry<K: Keep<Carried>>(
     }
 }
 
-/// Returns whether `found` is there and equal to `entry`: both are a no-operation, or both are the same entry.
+/// Returns whether `found` is there and equal to `entry`: both are a no-operation, or both are the
+/// same entry. (`found.entry` in the clause is the parameter `found` as the call begins.)
 fn is_equal_value(found: Option<&Option<Carried>>, entry: &Option<Carried>) -> bool
     ensures { IsTrue result ↔ (option_map (λ e. e.now) found.entry ≡ Some entry.now) }
 {

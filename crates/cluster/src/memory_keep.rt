@@ -17,7 +17,7 @@ pub struct MemoryKeep<V: Value> {
     alloc: Global,
     /// The record that a load copies.
     stored: Record<V>,
-    /// The number of failed calls, which only contracts see.
+    /// The number of failed calls. A `Steps` is a count that only contracts see.
     failures: Steps,
     /// The list of accepted entries does not end in an empty slot, so the slots up to the last entry are all of it.
     ghost is_trimmed: { trimmed stored.kept.accepted ≡ stored.kept.accepted },

@@ -16,7 +16,7 @@ put_at [] (suc s) v = None ∷ put_at [] s v
 put_at (x ∷ xs) zero v = Some v ∷ xs
 put_at (x ∷ xs) (suc s) v = x ∷ put_at xs s v
 
--- the entries before the first gap
+-- the entries before the first gap, that is, before the least empty slot
 abbrev pub entries_to_gap : {T : Type 0} → List (Option T) → List T
 entries_to_gap [] = []
 entries_to_gap (None ∷ xs) = []
@@ -31,7 +31,8 @@ front_of xs = length (entries_to_gap xs)
 abbrev pub top_of : {T : Type 0} → List (Option T) → ℕ
 top_of xs = length xs
 
--- a slot put before a trimmed list; if the slot is empty and the list is too, the result is the empty list
+-- a slot put before a trimmed list: the empty list if the slot and the list are empty. It removes
+-- no slot of the list.
 abbrev pub trim_head : {T : Type 0} → Option T → List (Option T) → List (Option T)
 trim_head None [] = []
 trim_head None (y ∷ ys) = None ∷ y ∷ ys

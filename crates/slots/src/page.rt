@@ -8,7 +8,8 @@ use std::marker::Model;
 /// The number of slots of a page.
 pub const PAGE_SLOTS: usize = 256;
 
-/// A page of slots. Its vector has capacity for all of them, but ends at the last slot that was filled.
+/// A page of slots. Its vector has capacity for all of them, but ends at the greatest slot with an
+/// entry.
 #[derive(Drop)]
 pub struct Page<T> {
     slots: Vec<Option<T>>,
@@ -56,7 +57,7 @@ impl<T: Drop> Page<T> {
     }
 }
 
-/// Appends empty slots until there are `count`. It does not allocate.
+/// Appends empty slots until there are at least `count`. It does not allocate.
 fn pad_to<T: Drop>(slots: &mut Vec<Option<T>>, count: usize)
     requires { count ≤ vec_capacity slots.old }
     ensures items { slots.new.items ≡ slots.old.items ++ replicate (count - length slots.old.items) None }

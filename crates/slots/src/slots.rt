@@ -7,14 +7,14 @@ use crate::pages::Pages;
 use std::alloc::{AllocError, Global};
 use std::marker::Model;
 
-/// The number of slots of a log, which are 0 to `SLOTS - 1`.
+/// The number of slots of a log. The slots are numbered from 0 to `SLOTS - 1`.
 pub const SLOTS: u32 = 1_048_576;
 
 /// A finite map from slots to entries, kept in pages of 256 slots.
 #[derive(Drop)]
 pub struct Slots<T> {
     pages: Pages<T>,
-    /// The least empty slot.
+    /// The least empty slot, or `SLOTS` if there is none.
     front: u32,
     /// One above the greatest slot with an entry, or 0 if there are no entries.
     top: u32,
@@ -74,7 +74,8 @@ impl<T: Drop> Slots<T> {
 
     /// Puts an entry at a slot, and returns the one that was there, if any. It does not allocate.
     ///
-    /// Cost: amortized constant. Filling the first gap scans on to the next gap; each entry is scanned once until `clear`.
+    /// Cost: amortized constant. A put at the front scans from there to the next empty slot; until
+    /// `clear`, each entry is scanned once.
     pub fn put(&mut self, slot: u32, entry: T) -> Option<T>
         requires { slot < self.old.capacity }
         ensures entries { self.new.entries ≡ put_at self.old.entries slot entry }
@@ -109,7 +110,8 @@ impl<T: Drop> Slots<T> {
 
     /// Returns the front that the map would have with an entry at `slot`.
     ///
-    /// Cost: constant, unless `slot` is the front: then the number of entries from there to the next gap.
+    /// Cost: constant, unless `slot` is the front: then the number of entries from there to the
+    /// next empty slot.
     pub fn front_with(&self, slot: u32) -> u32
         requires { slot < SLOTS }
         ensures front { (entry : T) → front_of (put_at self.now.entries slot entry) ≡ result }
