@@ -235,8 +235,8 @@ fn is_wrong<W: Work>(
 /// Judges the jobs that a worker put off, as far as they are before `least`, the index at which it
 /// stopped. Returns the least index of a job of its stripe that is not right.
 ///
-/// Errors: an allocation fails, or a heavy proof is judged and the checker takes none. Cost: that of
-/// these jobs.
+/// Errors: an allocation fails, or a heavy proof is judged and the checker takes none. Cost: that
+/// of these jobs.
 fn judge_deferred<W: Work>(
     work: &W,
     least: Option<usize>,
