@@ -36,8 +36,8 @@ pub record IsActiveAt (S : Database) (i : ℕ) (test : Stmt → Bool) : Type 0 w
   pub at : PassesAt S i test
   pub stays : IsTrue (stays_open 0 (drop i S))
 
--- how many of the blocks that are open just before the statement are closed by it or later, if
--- later statements close n of those that are open just after it
+-- how many of the blocks that are open just before the statement are closed by it or later. Later
+-- statements close n of the blocks that are open just after it.
 abbrev pub closed_blocks_from : Stmt → ℕ → ℕ
 closed_blocks_from Open n = n - 1
 closed_blocks_from Close n = suc n

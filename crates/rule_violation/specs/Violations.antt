@@ -1,7 +1,7 @@
 -- The violations of each of the ten rules.
 -- Source: Metamath, 4.2; the rules are those of the crate `scope`.
--- The code searches for a violation, for G2, G3 and G8 a repeated symbol only if no symbol has the
--- other fault; here a violation is defined without a search.
+-- The code searches for a violation; under G2, G3 and G8 it seeks a repeated symbol last. Here a
+-- violation is defined without a search.
 use Rattle.std.specs.Prelude.{◌≡◌, ℕ, ◌<◌, Bool, false, ◌⊎◌, List, [], ◌∷◌, Some, slice_get, IsTrue, IsFalse}
 use Rattle.mm_lex.specs.Alphabet.{Name}
 use Rattle.mm_read.specs.declared.stmt.Stmt.{Stmt}
@@ -60,21 +60,22 @@ abbrev pub IsViolation : Database → Stmt → Rule → RuleViolation → Type 0
 IsViolation S s G1 Statement = keeps S s G1 ≡ false
 IsViolation S s G10 Statement = keeps S s G10 ≡ false
 -- a symbol of the `$c` that is an earlier label or was declared before (`SymbolConflict`: its
--- index, and the earlier statement's position), or that occurs twice (`Twice`: both indexes)
+-- index, and the position of the earlier statement), or one that occurs twice (`Twice`: both
+-- indexes)
 IsViolation S s G2 (SymbolConflict k i) = HoldsAt (constants s) k (λ x. PassesAt S i (has_name_in name_role.LabelOrSymbol x))
 IsViolation S s G2 (Twice j k) = IsTwice (constants s) j k
--- a symbol of the `$v` that is an earlier label, was declared as a constant, or is an active
--- variable, with that statement, or that occurs twice
+-- a symbol of the `$v`, with an earlier statement that has it as its label, declares it as a
+-- constant, or is active and declares it as a variable; or a symbol that occurs twice
 IsViolation S s G3 (SymbolConflict k i) = HoldsAt (variables s) k (λ x. PassesAt S i (has_name_in name_role.LabelOrConstant x) ⊎ IsActiveAt S i (has_name_in name_role.DeclaredVariable x))
 IsViolation S s G3 (Twice j k) = IsTwice (variables s) j k
--- the label, which is an earlier label or was declared as a symbol, with that statement
+-- the label, with an earlier statement that has it as its label or declares it as a symbol
 IsViolation S s G4 (LabelConflict i) = (x : Name) × (label_of s ≡ Some x) × PassesAt S i (has_name_in name_role.LabelOrSymbol x)
 -- a symbol that is neither a constant nor an active variable
 IsViolation S s G5 (Symbol k) = HoldsAt (expr_of s) k (λ x. IsFalse (is_constant S x) × IsFalse (is_variable S x))
 -- the first symbol, which is not a constant
 IsViolation S s G6 (Symbol k) = (k ≡ 0) × HoldsAt (expr_of s) k (λ x. IsFalse (is_constant S x))
--- the second symbol of a `$f`, which is not an active variable, or has an active `$f`, with that
--- statement
+-- the second symbol of a `$f`: it is not an active variable (`Symbol`), or it has an active `$f`,
+-- which is the earlier statement (`SymbolConflict`)
 IsViolation S s G7 (Symbol k) = (k ≡ 1) × HoldsAt (float_expr s) k (λ x. IsFalse (is_variable S x))
 IsViolation S s G7 (SymbolConflict k i) = (k ≡ 1) × HoldsAt (float_expr s) k (λ x. IsActiveAt S i (has_name_in name_role.FloatVariable x))
 -- a symbol of a `$d` that is not an active variable, or that occurs twice

@@ -1,4 +1,5 @@
-//! Finds the violation of a rule, with a function for each rule that needs a search.
+//! Finds a violation of a rule, with a function for each rule that needs a search, and a block that
+//! is open at the end.
 ghost use Rattle.std.specs.Prelude.{◌≡◌, ◌==◌, ◌&&◌, false, IfOk, IsSomeAnd, IfSome, MatchOption};
 ghost use Rattle.std.specs.List.{list_any};
 ghost use Rattle.scope.specs.Active.{is_open};
@@ -17,7 +18,8 @@ use scope::Rule;
 use std::alloc::{AllocError, Global};
 
 /// Returns a violation of a rule that a statement breaks after the earlier ones. If the statement
-/// keeps the rule, the result is not specified. `scope::Rule` lists the rules G1 to G10.
+/// keeps the rule, the result is not specified. `scope::Rule` lists the rules G1 to G10, and has
+/// `Memory` for a failed allocation, which is no rule.
 ///
 /// Errors: an allocation fails. Cost: a few passes over the earlier statements; each of their
 /// labels, declared symbols and variables of `$f`s is looked up among the symbols of the statement

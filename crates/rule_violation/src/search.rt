@@ -8,10 +8,10 @@ ghost use Rattle.rule_violation.specs.Search.{has_name_in, closed_blocks_from, P
 use mm_lex::{Word, Words};
 use mm_read::Stmt;
 
-/// The role of a name that is searched in a statement.
+/// The role in which a statement has a name.
 #[derive(Clone, Copy, Drop)]
 pub(crate) enum NameRole {
-    /// Its label, or a symbol that it declares.
+    /// The label of the statement, or a symbol that it declares.
     LabelOrSymbol,
     /// Its label, or a constant that it declares.
     LabelOrConstant,

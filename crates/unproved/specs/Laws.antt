@@ -1,4 +1,5 @@
--- The law of `--assume`: legal statements are good once their unproved `$p` are replaced by `$a`.
+-- The law of assumed statements: legal statements are good once their unproved `$p` are replaced
+-- by `$a`. Commands with the option `--assume` ask a library of such statements.
 -- Source: Metamath, 4.2.6: a citation uses only the frame of an earlier assertion, whether that is
 -- a `$a` or a `$p`.
 use Rattle.std.specs.Prelude.{ℕ, List, length}

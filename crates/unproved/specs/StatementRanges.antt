@@ -26,7 +26,8 @@ pub record IsRangeWithFrames (frame_statements S : Database) (start end : ℕ) :
 abbrev pub IsProvedIn : RangeView → ℕ → Type 0
 IsProvedIn range k = IsProvedIfProvable range.statements (range.start + k + 1)
 
--- the answer is the index, in the range, of the first `$p` that is not proved
+-- the answer is the index, in the range, of the first `$p` that is not proved, or none if each is
+-- proved
 abbrev pub IsFirstUnprovedIn : Database → ℕ → ℕ → Option ℕ → Type 0
 IsFirstUnprovedIn S start end answer =
     IsLeast (λ k. IsProvedIfProvable S (start + k + 1)) (end - start) answer

@@ -1,4 +1,4 @@
-//! The statements of a legal text, with their rules and frames.
+//! The statements of a legal text, with their frames and the state of the rules after them.
 ghost use Rattle.std.specs.Prelude.{◌≡◌, ◌≤◌, [], true, false, length, Ok, None, IfOk, IfSome};
 ghost use Rattle.std.specs.List.{All};
 ghost use Rattle.mm_read.specs.Statements.{AreShaped};
@@ -43,7 +43,8 @@ impl Model for LegalDatabase {
 
 impl LegalDatabase {
     /// Makes a `LegalDatabase` of these statements, or returns `None` if one of them is not legal
-    /// or a block is open at the end.
+    /// or a block is open at the end. Clause `legal` says that the value has these statements; that
+    /// they are legal is part of the invariant.
     ///
     /// Errors: an allocation fails. Cost: the size of the statements.
     /// Source: Metamath, chapter 4.
@@ -82,12 +83,12 @@ impl LegalDatabase {
 
     /// Returns the positions, from 1 and ascending, of every `$p` that is not proved, each judged
     /// against earlier statements. The list does not depend on the number of workers; whether
-    /// `AllocError` is returned may.
+    /// `AllocError` is returned may. `rt` starts the threads.
     ///
     /// Errors: an allocation fails. Cost: that of the proofs, divided among the workers. In each
     /// range of at most 2,048 statements the calling thread may judge proofs again: those after the
-    /// first wrong one, heavy ones that a worker puts off, or all of them if an allocation fails
-    /// for a worker.
+    /// first wrong one, those that a worker puts off for want of memory, or all of them if
+    /// `verify_pool::judge_all` judges all jobs again.
     /// Source: Metamath, 4.2.6 and appendix B.
     pub fn unproved<R: Threads + Sync>(
         &self,
@@ -217,7 +218,7 @@ fn add_all(rules: &mut Rules, frames: &mut Frames, statements: &[Stmt]) -> Resul
         → IsLegalDatabase rules.new.statements frames.new.statements statements.now }
     ensures broken { result ≡ Ok false → ¬ AllLegal statements.now }
 {
-    // Room for as many labels as if every other statement had one.
+    // Room for half as many labels as there are statements.
     frames.reserve(statements.len() / 2);
     let mut steps = Steps::new();
     for statement in statements {

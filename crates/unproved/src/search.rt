@@ -18,7 +18,8 @@ const MAX_RANGE_STATEMENTS: usize = 2_048;
 /// Fewer statements than this are judged on the calling thread: starting threads would cost more.
 const MIN_FOR_THREADS: usize = 32;
 
-/// Statements with their frames, and the workers that judge them.
+/// Statements with their frames, the number of workers that judge them, and `rt`, which starts the
+/// threads.
 #[derive(Drop)]
 pub(crate) struct Search<'a, R: Threads + Sync> {
     pub(crate) rt: &'a R,
@@ -31,8 +32,8 @@ pub(crate) struct Search<'a, R: Threads + Sync> {
 /// Returns the positions of the `$p` that are not proved, in order.
 ///
 /// Errors: an allocation fails. Cost: that of the proofs, divided among the workers. The calling
-/// thread may judge proofs again: those after a wrong one in its range, heavy ones that a worker
-/// puts off, or all of a range if an allocation fails for a worker.
+/// thread may judge proofs again: those after a wrong one in its range, those that a worker puts
+/// off for want of memory, or all of a range if `judge_all` judges all jobs again.
 pub(crate) fn find_unproved<R: Threads + Sync>(
     search: &Search<'_, R>,
 ) -> Result<Vec<usize>, AllocError>

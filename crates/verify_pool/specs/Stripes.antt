@@ -10,7 +10,8 @@ abbrev pub IsStripeRightBefore : (ℕ → Type 0) → ℕ → ℕ → ℕ → Op
 IsStripeRightBefore right count first step answer =
     (turn : ℕ) → first + turn * step < count → IsBefore (first + turn * step) answer → right (first + turn * step)
 
--- the answer is the least index of a job of the stripe that is not right, or none if each is right
+-- each job of the stripe before the answer is right, and the answer, if there is one, is the index
+-- of a job that is not right. It may be a job of another stripe: `IsLeast` follows all the same.
 pub record IsLeastInStripe (right : ℕ → Type 0) (count first step : ℕ) (answer : Option ℕ) : Type 0 where
   pub before : IsStripeRightBefore right count first step answer
   pub wrong : IfSome answer (IsWrongAt right count)
@@ -19,8 +20,9 @@ pub record IsLeastInStripe (right : ℕ → Type 0) (count first step : ℕ) (an
 abbrev pub IsIn : ℕ → List ℕ → Type 0
 IsIn n ns = (k : ℕ) × (slice_get ns k ≡ Some n)
 
--- what a worker found in its stripe: each job before the answer is right or was put off, each index put off is that of a
--- job, and the answer, if there is one, is the index of a job that is not right
+-- the answer of a worker and the indexes that it put off: each job of the stripe before the answer
+-- is right or was put off, each index put off is that of a job, and the answer, if there is one, is
+-- the index of a job that is not right
 pub record IsFoundInStripe (right : ℕ → Type 0) (count first step : ℕ) (answer : Option ℕ) (deferred : List ℕ) : Type 0 where
   pub before : IsStripeRightBefore (λ k. right k ⊎ IsIn k deferred) count first step answer
   pub within : (k : ℕ) → IsIn k deferred → k < count

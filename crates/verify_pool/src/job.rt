@@ -28,9 +28,7 @@ pub struct Job {
 
 /// Returns the least index, from 0, of a job that is not right; `None` if each is right.
 ///
-/// The jobs are dealt out to the workers in turn. Each worker runs on a thread of its own if one
-/// can be started, and passes the gate, with `Place::Job(index)`, before it judges the job of that
-/// index. A worker stops at its first job that is not right.
+/// The jobs are judged as by `judge_all`, with new checkers.
 ///
 /// Errors and cost: those of `judge_all`.
 #[tactic(auto, using(crate::proofs::LeastLemmas::first_wrong_job))]

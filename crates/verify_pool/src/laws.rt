@@ -2,8 +2,8 @@
 
 ghost use Rattle.verify_pool.specs.Laws.{OneAnswer};
 
-/// At most one answer is the first job of a list that is not right, so no answer of `check_all`
-/// depends on the number of workers.
+/// For one list of jobs at most one answer meets `IsFirstWrongJob`, so the answer of `check_all`
+/// does not depend on the number of workers.
 pub fn one_answer()
     ensures { OneAnswer }
 {}

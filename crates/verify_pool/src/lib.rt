@@ -1,8 +1,8 @@
 //! Judges many proofs in parallel, with the answer of one thread.
 //!
-//! Crates above use one contract: `judge_all` returns the least index of a job that is not right, or `None` if
-//! each is right, whatever the number of workers; `judge_here` returns it on the calling thread. `check_all` returns it
-//! for proofs that are given as their items.
+//! The main contract: `judge_all` returns the least index of a job that is not right, or `None` if
+//! each is right, whatever the number of workers. `judge_here` returns it on the calling thread;
+//! `check_all` returns it for proofs that are given as their items.
 //!
 //! Reading order: `work` (jobs by index), `pool_size`, `gate` (what a thread passes before each job), `checkers` (reused from
 //! text to text), `pool` (the jobs of one worker, and all of them), `job` (proofs with their items), `laws`.

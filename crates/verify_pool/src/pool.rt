@@ -16,13 +16,13 @@ use verify::{Answer, Checker};
 /// Returns the least index, from 0, of a job that is not right; `None` if each is right.
 ///
 /// The jobs are dealt out in turn to the workers; no more workers take part than there are jobs.
-/// Each worker has a checker of its own, runs on a thread of its own if one can be started, and
-/// passes the gate, with `Place::Job(index)`, before it judges the job of that index. A worker
-/// stops at its first job that is not right, and puts off those that need more memory than it has:
-/// the calling thread judges these after all workers have ended. If an allocation fails while
-/// workers are made, while a job is put off, or while the calling thread judges one that was, and
+/// Each worker has a checker of its own, runs on a thread that `rt` starts, if it can, and passes
+/// the gate, with `Place::Job(index)`, before it judges the job of that index. A worker stops at
+/// its first job that is not right, and puts off those that need more memory than it has: the
+/// calling thread judges these after all workers have ended. If an allocation fails while workers
+/// are made, while a job is put off, or while the calling thread judges a job that was put off, and
 /// the gate admits heavy proofs, the workers are dropped, and the calling thread judges all jobs
-/// again.
+/// again. With one worker, or at most one job, no worker is made: the calling thread judges all.
 ///
 /// Errors: an allocation fails while the calling thread judges all jobs. If the gate admits no
 /// heavy proofs, also if an allocation fails in one of the three other cases, or if a heavy proof
@@ -52,7 +52,8 @@ pub fn judge_all<W: Work + Sync, G: Gate + Sync, R: Threads + Sync>(
 
 /// Returns the least index of a job that is not right, judged by this number of workers.
 ///
-/// Errors: an allocation fails. Cost: that of the jobs, divided among the workers.
+/// Errors: a checker cannot be made, or those of `least_of`. Cost: that of the jobs, divided among
+/// the workers, and of those that are put off once more.
 fn judge_by_workers<W: Work + Sync, G: Gate + Sync, R: Threads + Sync>(
     rt: &R,
     checkers: &mut Checkers,
@@ -91,9 +92,11 @@ fn judge_stripes<W: Work + Sync, G: Gate + Sync, R: Threads + Sync>(
     thread::for_each_mut(rt, workers, step, &judge);
 }
 
-/// Returns the least index of a job that is not right, from the results of the workers and the jobs that they put off.
+/// Returns the least index of a job that is not right, from the results of the workers and the jobs
+/// that they put off.
 ///
-/// Errors: an allocation failed for a worker, or fails for the calling thread. Cost: that of the jobs that were put off.
+/// Errors: a worker could not put a job off; an allocation fails for the calling thread; or a heavy
+/// proof was put off, and `calling` takes none. Cost: that of the jobs that were put off.
 fn least_of<W: Work>(
     work: &W,
     workers: &[Worker],
@@ -111,7 +114,8 @@ fn least_of<W: Work>(
     Ok(least)
 }
 
-/// Returns the least index, from 0, of a job that is not right, judged on the calling thread; `None` if each is right.
+/// Returns the least index, from 0, of a job that is not right, judged on the calling thread
+/// without a gate; `None` if each is right.
 ///
 /// Errors: an allocation fails. Cost: that of the jobs.
 pub fn judge_here<W: Work>(checkers: &mut Checkers, work: &W) -> Result<Option<usize>, AllocError>
@@ -123,7 +127,8 @@ pub fn judge_here<W: Work>(checkers: &mut Checkers, work: &W) -> Result<Option<u
 
 /// Returns the least index of a job that is not right, judged with one checker.
 ///
-/// Errors: an allocation fails. Cost: that of the jobs up to the first that is not right.
+/// Errors: an allocation fails, or a proof is heavy and the checker takes none. Cost: that of the
+/// jobs up to the first that is not right.
 fn judge_alone<W: Work, G: Gate>(
     work: &W,
     checker: &mut Checker,
@@ -171,9 +176,10 @@ fn judge_stripe<W: Work, G: Gate>(
     worker.least = least_in_stripe(work, first, step, worker, gate);
 }
 
-/// Returns the least index of a job that is found not to be right, among the jobs `first`, `first + step` and so on.
+/// Judges the jobs `first`, `first + step` and so on, up to the first that is found not to be
+/// right, and returns its index. A job before it that was put off may not be right either.
 ///
-/// Errors: a job can neither be judged nor be put off. Cost: that of these jobs up to the first that is not right.
+/// Errors: a job can neither be judged nor be put off. Cost: that of the jobs that are judged.
 fn least_in_stripe<W: Work, G: Gate>(
     work: &W,
     first: usize,
@@ -199,8 +205,8 @@ fn least_in_stripe<W: Work, G: Gate>(
     Ok(None)
 }
 
-/// Judges a job, and returns whether it is wrong. A job that runs out of memory is appended to `deferred`, and `false` is
-/// returned.
+/// Judges a job, and returns whether it is found not to be right. If memory runs out, its index is
+/// appended to `deferred`, and `false` is returned, right or not.
 ///
 /// Errors: it cannot be appended. Cost: that of the job.
 fn is_wrong<W: Work>(
@@ -226,10 +232,11 @@ fn is_wrong<W: Work>(
     }
 }
 
-/// Judges the jobs that a worker put off, as far as they are before `least`, the least index that
-/// it found not to be right. Returns the least index of a job of its stripe that is not right.
+/// Judges the jobs that a worker put off, as far as they are before `least`, the index at which it
+/// stopped. Returns the least index of a job of its stripe that is not right.
 ///
-/// Errors: an allocation fails. Cost: that of these jobs.
+/// Errors: an allocation fails, or a heavy proof is judged and the checker takes none. Cost: that
+/// of these jobs.
 fn judge_deferred<W: Work>(
     work: &W,
     least: Option<usize>,
@@ -248,9 +255,10 @@ fn judge_deferred<W: Work>(
     Ok(least)
 }
 
-/// Judges a deferred job if its index is below `least`. Returns the new least index of a job that is not right.
+/// Judges a job that was put off if its index is below `least`. Returns the new least index of a
+/// job that is not right.
 ///
-/// Errors: an allocation fails. Cost: that of the job.
+/// Errors: those of `judge_deferred`. Cost: that of the job.
 fn settle_one<W: Work>(
     work: &W,
     index: usize,

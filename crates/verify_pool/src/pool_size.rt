@@ -37,8 +37,9 @@ impl PoolSize {
         PoolSize { count }
     }
 
-    /// Returns a size for this machine: twice the number of threads that it offers, 16 at most, so that faster
-    /// processors take over the jobs that a slower one leaves; 1 if it offers one thread or does not report the number.
+    /// Returns a size for this machine: twice the number of threads that it offers, 16 at most, so
+    /// that a faster processor can run more of the workers than a slower one; 1 if it offers one
+    /// thread or does not report the number.
     pub fn for_machine<R: Threads>(rt: &R) -> PoolSize {
         let threads = thread::available_parallelism(rt).map_or(1, |threads| threads.get());
         if threads < 2 {
