@@ -21,7 +21,7 @@ fn main(rt: HostRuntime) -> Result<()> {
     agree_on_one(&rt)
 }
 
-/// Returns an entry with a text of author 7.
+/// Returns an entry that submits a text, by author 7.
 fn entry(alloc: Global, serial: u64, text: &[u8]) -> Result<Entry> {
     Ok(Entry::Text(Submission {
         author: 7,
@@ -38,6 +38,7 @@ fn apply_two(rt: &HostRuntime) -> Result<()> {
         println!(rt; "submission {serial}: {verdict:?}")?;
         if let Verdict::Refused(Cause::Proof { statement }) = verdict {
             let mut database = library.export()?;
+            // `explain_after` counts statements in the whole database, `Refused` in the text alone.
             let library_len = database.len();
             database.extend_from_slice(text)?;
             let statement = library.statements().len().saturating_add(statement);
@@ -62,6 +63,7 @@ fn agree_on_one(rt: &HostRuntime) -> Result<()> {
     let (mut switch, mut cells) = cells(alloc, Weights::equal(3), keeps)?;
     offer_on(&mut switch, 0, entry(alloc, 1, GOOD)?)?;
     let mut posted = begin_on(&mut switch, 0)?;
+    // Delivers the packets in the order of their numbers, at most 100 of them.
     for packet in 0..100 {
         if packet < posted {
             posted = deliver_on(&mut switch, packet)?;
