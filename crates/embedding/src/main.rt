@@ -38,7 +38,6 @@ fn apply_two(rt: &HostRuntime) -> Result<()> {
         println!(rt; "submission {serial}: {verdict:?}")?;
         if let Verdict::Refused(Cause::Proof { statement }) = verdict {
             let mut database = library.export()?;
-            // `explain_after` counts statements in the whole database, `Refused` in the text alone.
             let library_len = database.len();
             database.extend_from_slice(text)?;
             let statement = library.statements().len().saturating_add(statement);
@@ -55,7 +54,7 @@ fn apply_two(rt: &HostRuntime) -> Result<()> {
     Ok(())
 }
 
-/// Lets three nodes agree on an entry and apply it; compares the libraries of the first and last.
+/// Lets three nodes agree on an entry by at most 100 packets; compares the first and last library.
 fn agree_on_one(rt: &HostRuntime) -> Result<()> {
     let alloc = rt.alloc();
     let (one, two) = (MemoryKeep::new(alloc), MemoryKeep::new(alloc));
@@ -63,7 +62,6 @@ fn agree_on_one(rt: &HostRuntime) -> Result<()> {
     let (mut switch, mut cells) = cells(alloc, Weights::equal(3), keeps)?;
     offer_on(&mut switch, 0, entry(alloc, 1, GOOD)?)?;
     let mut posted = begin_on(&mut switch, 0)?;
-    // Delivers the packets in the order of their numbers, at most 100 of them.
     for packet in 0..100 {
         if packet < posted {
             posted = deliver_on(&mut switch, packet)?;

@@ -8,8 +8,8 @@
 //!
 //! A letter group is the letters of one number in a compressed proof: letters U to Y, then one of A
 //! to T. Any other group is the list of the mandatory variables of one active `$d` of an assertion.
-//! In `CodeBreak`, `code_break`, `broken_code` and `WhyUnproved::Code`, code is proof code; any other
-//! code is the number of a symbol.
+//! In `CodeBreak`, `code_break`, `broken_code` and `WhyUnproved::Code`, code is proof code; any
+//! other code is the number of a symbol.
 //!
 //! Reading order: `why`, `proof_fault`, `broken_code`, `broken_letters`; then `reason`, `images`,
 //! `variable_lists`, `disjoint_pairs`, `violation`, `citation`, `run`.
