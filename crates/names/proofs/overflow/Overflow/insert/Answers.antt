@@ -8,4 +8,4 @@ returns-then-name-lt-LEAST_HASHED_LEN-clause-others c =
 
 pub returns-clause-others : goal.returns-clause-others
 returns-clause-others c =
-    λ x bytes ne. others-long c.args.self.now (record { short = c.args.self.now.short; long = c.insert-2.new.self }) c.in_ok-name_copy.name_copy.items _ refl c.in_ok-insert-2.ensures.updates x (λ e. ne (e ∙ c.in_ok-text.ensures.items))
+    λ x bytes ne. others-long c.args.self.now (record { short = c.args.self.now.short; long = c.insert-2.new.self }) c.in_ok-name_copy.name_copy.items _ refl c.in_ok-insert-2.ensures.updates x (λ e. ne (e ∙ c.in_ok-name_copy.ensures.items))
