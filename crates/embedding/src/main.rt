@@ -21,7 +21,7 @@ fn main(rt: HostRuntime) -> Result<()> {
     agree_on_one(&rt)
 }
 
-/// Returns an entry with a text of author 7.
+/// Returns an entry that submits a text, by author 7.
 fn entry(alloc: Global, serial: u64, text: &[u8]) -> Result<Entry> {
     Ok(Entry::Text(Submission {
         author: 7,
@@ -54,7 +54,7 @@ fn apply_two(rt: &HostRuntime) -> Result<()> {
     Ok(())
 }
 
-/// Lets three nodes agree on an entry and apply it; compares the libraries of the first and last.
+/// Lets three nodes agree on an entry by at most 100 packets; compares the first and last library.
 fn agree_on_one(rt: &HostRuntime) -> Result<()> {
     let alloc = rt.alloc();
     let (one, two) = (MemoryKeep::new(alloc), MemoryKeep::new(alloc));

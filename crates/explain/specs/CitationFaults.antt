@@ -20,7 +20,8 @@ required_result S σ p = applied σ (expr_at S p)
 abbrev pub AllMatch : Database → Images → List ℕ → List Expr → Type 0
 AllMatch S σ ps rs = map (required_result S σ) ps ≡ rs
 
--- the k-th hypothesis, at p, requires another result than it has; each earlier one has the result that it requires
+-- the hypothesis with index k, at position p, requires another result than it has; each earlier one
+-- has the result that it requires
 pub record IsFirstMismatch (S : Database) (σ : Images) (ps : List ℕ) (rs : List Expr) (k p : ℕ) (required actual : Expr) : Type 0 where
   pub hypothesis : slice_get ps k ≡ Some p
   pub result : slice_get rs k ≡ Some actual

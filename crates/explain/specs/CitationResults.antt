@@ -1,4 +1,4 @@
--- The results before an item, and that no citation of a statement stays within the limit.
+-- The results before an item, and when no citation of a statement stays within the limit.
 -- Source: Metamath, 4.2.6; the limit is this project's.
 -- The code has the verifier's results as numbers; here they are expressions.
 use Rattle.std.specs.Prelude.{◌≡◌, ℕ, ◌+◌, ◌<◌, List, ◌++◌, length, map, Some}
@@ -10,11 +10,12 @@ pub data CitationGives (S : Database) (at i : ℕ) (s : Stmt) (stack below : Lis
   of_hypothesis : IsHypothesis S at i s → e ≡ expr_of s → stack ≡ below → CitationGives S at i s stack below e
   of_assertion : (σ : Images) → IsInstance S at i s σ → stack ≡ below ++ premises S i s σ → e ≡ applied σ (expr_of s) → CitationGives S at i s stack below e
 
--- the results by name, without those that are cached for labels
+-- the results by name, without the first `labels` saved ones, which the verifier caches for labels
 abbrev pub named_without_cached : Numbered → ℕ → HeldResults → State
 named_without_cached f labels results = named f.names (without_cached labels results.results)
 
--- with each result that a citation of the statement at i gives, the lengths of all results exceed the limit
+-- no citation of the statement at i gives a result within the limit: with each that one gives, the
+-- weight exceeds it
 abbrev pub CannotCite : Numbered → ℕ → ℕ → HeldResults → Type 0
 CannotCite f at i results =
     (s : Stmt) (below : List Expr) (e : Expr) → stmt_at f.statements i ≡ Some s → CitationGives f.statements at i s (map (decode f.names) results.results.stack) below e

@@ -20,7 +20,8 @@ pub record HasWrongResults (S : Database) (names : List Name) (at : ℕ) (h : St
   pub count : length results ≡ length (hypotheses (before S a) s)
   pub wrong : IsResultsFault S names at a s results fault
 
--- a citation of the statement s at i gives a result with which the lengths of all results exceed the limit
+-- a citation of the statement s at i gives a result with which the weight (the sum of the lengths
+-- of the results of all citations and recalls so far) exceeds the limit
 pub record ExceedsLimit (S : Database) (at : ℕ) (h : State) (i : ℕ) (s : Stmt) : Type 0 where
   pub below : List Expr
   pub result : Expr
@@ -44,8 +45,7 @@ abbrev pub IsLabelCitationFault : Database → List Name → ℕ → State → N
 IsLabelCitationFault S names at h label UnknownLabel = (i : ℕ) (s : Stmt) → Carries S i s label → ⊥
 IsLabelCitationFault S names at h label fault = (i : ℕ) × (s : Stmt) × Carries S i s label × IsCitationFault S names at h i s fault
 
--- the fault of a recall: no result is marked with the number, or the lengths of all results would
--- exceed the limit
+-- the fault of a recall: no result is marked with the number, or the weight would exceed the limit
 abbrev pub IsRecallFault : State → ℕ → ItemFault → Type 0
 IsRecallFault h k NoMarkedResult = (e : Expr) → IsSaved h.saved k e → ⊥
 IsRecallFault h k TooManySymbols = (e : Expr) × IsSaved h.saved k e × (SYMBOLS_LIMIT < h.weight + length e)

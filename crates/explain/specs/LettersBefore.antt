@@ -4,13 +4,14 @@
 use Rattle.std.specs.Prelude.{◌≡◌, ◌≢◌, ℕ, zero, suc, ◌+◌, ◌*◌, ◌<◌, ◌≤◌, IsTrue, IsFalse, List, [], ◌∷◌, ◌++◌, length}
 use Rattle.explain.specs.Words.{list_all, Name, is_leading, number_after, before_rest, numbers_from, starts_with_mark}
 
--- the number of marks
+-- the number of marks among the numbers that letters write; a mark is the number 0
 abbrev pub zeros : List ℕ → ℕ
 zeros [] = 0
 zeros (zero ∷ numbers) = suc (zeros numbers)
 zeros (suc n ∷ numbers) = zeros numbers
 
--- the letters before an index are whole letter groups and marks up to `begin`, then letters U to Y with the value `digits`
+-- the letters before an index are whole letter groups and marks up to `begin`, then letters U to Y
+-- with the value `digits` (U is 1, Y is 5, in base 5 without zero)
 pub record IsReadTo (label_count : ℕ) (letters : List ℕ) (index limit digits begin : ℕ) : Type 0 where
   pub numbers : List ℕ
   pub front : List ℕ

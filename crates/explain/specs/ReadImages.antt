@@ -31,7 +31,7 @@ code_images_read (h ∷ hs) (e ∷ es) = code_image_at h e ++ code_images_read h
 abbrev pub named_images : List Name → CodeImages → Images
 named_images names σ = map (λ p. (name_at names p.0, decode names p.1)) σ
 
--- each variable has a name
+-- the number of each variable is that of a name, below n; a constant is not excluded
 abbrev pub AreVariables : ℕ → CodeImages → Type 0
 AreVariables n [] = Unit {0}
 AreVariables n (p ∷ σ) = (p.0 < n) × AreVariables n σ

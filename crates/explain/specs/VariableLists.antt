@@ -1,12 +1,14 @@
--- The variables of expressions, each once.
+-- Lists of the variables of expressions.
 -- Source: Metamath, 4.2.6: the disjoint variable condition is on the variables of an image.
--- The code reads each image once; the definitions of faults are about whole images.
+-- The code reads each image once and lists each variable once; the definitions of faults are about
+-- whole images.
 use Rattle.std.specs.Prelude.{ℕ, ◌<◌, IsTrue, List, [], ◌∷◌, length}
 use Rattle.explain.specs.Words.{Vec, contains, nat_cmp, Name, has_name, Expr, Database, is_variable, name_at, decode, AreBelow}
 use Rattle.explain.specs.declared.images.Image.{Image}
 use Rattle.explain.specs.declared.variable_lists.VariableList.{VariableList}
 
--- the list has the variables of the expression, and no symbol that the expression does not have
+-- the list has the variables of the expression, and no symbol that the expression does not have; it
+-- may have constants of the expression
 pub record AreVariablesOf (S : Database) (names : List Name) (expr list : List ℕ) : Type 0 where
   pub below : AreBelow (length names) list
   pub each : (v : Name) → IsTrue (has_name v (decode names expr)) → IsTrue (is_variable S v) → IsTrue (has_name v (decode names list))

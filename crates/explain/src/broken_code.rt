@@ -76,7 +76,8 @@ fn compressed_break(
     }
 }
 
-/// Returns the rule that a compressed proof without the byte `?` breaks, given the mandatory labels as a set.
+/// Returns the rule that a compressed proof without the byte `?` breaks, in its listed labels or in
+/// its letters, given the mandatory labels also as a set.
 fn listed_break(
     alloc: Global,
     tokens: &Words,
@@ -95,6 +96,7 @@ fn listed_break(
     }
     let mut words = tokens.iter();
     let _ = words.next();
+    // `listed` is the number of listed labels before `word`.
     let Some((listed, word)) = first_with_fault(
         &mut words,
         mandatory,
@@ -121,10 +123,11 @@ fn listed_break(
     }
 }
 
-/// Returns the first of the tokens with this fault, and its index. Consumes the tokens up to it.
+/// Returns the index of the first token with this fault, and the token. Consumes the tokens up to
+/// it.
 ///
-/// Cost: linear in the tokens; for `NotListable` times the logarithm of the number of mandatory labels if their set is given,
-/// else times that number.
+/// Cost: linear in the tokens; for `NotListable` times the logarithm of the number of mandatory
+/// labels if their set is given, else times that number.
 fn first_with_fault<'a>(
     words: &mut WordIter<'a>,
     mandatory: &Words,

@@ -12,7 +12,7 @@ use crate::why::{LetterBreak, LetterFault};
 /// The state of reading before a letter.
 #[derive(Clone, Copy, Drop)]
 pub(crate) struct LetterState {
-    /// The greatest number that a letter group may have here.
+    /// The greatest number that a letter group may have here: the count of labels and marks so far.
     limit: usize,
     /// The value of the letters U to Y of the current letter group read so far.
     digits: usize,
@@ -20,8 +20,8 @@ pub(crate) struct LetterState {
     begin: usize,
 }
 
-/// Returns the rule that the letters break, given the number of labels before them; `None` if they
-/// write items.
+/// Returns the rule that the letters break, or `None` if they write items. `label_count` is the
+/// number of labels before the letters, mandatory and listed.
 ///
 /// Cost: the letters.
 pub(crate) fn letter_break(letters: &[u8], label_count: usize) -> Option<LetterBreak>
@@ -83,6 +83,7 @@ impl LetterState {
             }
             b'U'..=b'Y' => {
                 let digits = 5 * self.digits + usize::from(letter - 84);
+                // The least number of a group that begins so is 20 * digits + 1.
                 if 20 * digits >= self.limit {
                     return Err(self.broken(LetterFault::TooGreat));
                 }

@@ -22,9 +22,11 @@ use std::alloc::{AllocError, Global};
 use subst::SYMBOLS_LIMIT;
 use verify::Results;
 
-/// Returns why the statement at a position cannot be cited, given the earlier results.
+/// Returns why the statement at a position cannot be cited, given the earlier results. The clause
+/// holds for any count `labels` of cached results, because this fault depends on no saved result.
 ///
-/// Errors: an allocation fails, or the expression that a hypothesis requires has more than `SYMBOLS_LIMIT` symbols.
+/// Errors: an allocation fails, or the expression that a hypothesis requires has more than
+/// `SYMBOLS_LIMIT` symbols.
 pub fn citation_fault(
     alloc: Global,
     frames: &Frames,
@@ -143,8 +145,9 @@ fn last_results<'a>(
     Ok(taken)
 }
 
-/// Returns the fault of these results, one for each hypothesis of an assertion, or `None` if its hypotheses require them and
-/// its disjoint variable conditions hold. Does not compute the conclusion.
+/// Returns the fault of these results, one for each hypothesis of an assertion, or `None` if its
+/// hypotheses require them and its disjoint variable conditions hold. Does not compute the
+/// conclusion.
 fn results_fault(
     alloc: Global,
     frames: &Frames,

@@ -21,8 +21,8 @@ pub struct VariablePair {
 /// A cache of pairs of variables whose images are disjoint, so that a pair that is in many groups is tested once.
 #[derive(Drop)]
 pub struct DisjointPairs {
-    /// The index of a pair by its key. The index may be that of another pair, so the pair at it is
-    /// compared.
+    /// The index of a pair by its key. If an allocation failed in `add`, another pair or none may
+    /// be at the index, so the pair at it is compared.
     indexes: BTreeMap<u64, usize>,
     /// The pairs.
     pub pairs: Vec<VariablePair>,

@@ -1,6 +1,7 @@
 //! Why a proof is wrong.
 
-/// Why a proof is wrong. Statements are given by their positions, counted from 1, symbols by their numbers in `Frames`.
+/// Why a proof is wrong. Statements are given by their positions, counted from 1, symbols by their
+/// numbers in `Frames`.
 #[derive(Debug, Drop)]
 pub enum Reason {
     /// An item, counted from 0, has a fault.
@@ -53,8 +54,8 @@ pub enum ItemFault {
         in_first_image: u32,
         in_second_image: u32,
     },
-    /// The lengths of all results, with that of the result of this item, add up to more than the
-    /// limit of a proof's weight.
+    /// The lengths of the results of all citations and recalls up to this item add up to more than
+    /// `SYMBOLS_LIMIT`, the limit of a proof's weight.
     TooManySymbols,
     /// There is no result to mark, or none marked with this number.
     NoMarkedResult,

@@ -22,8 +22,8 @@ use verify::{Failure, Results, first_failure};
 /// Errors: an allocation fails, or the expression that a hypothesis requires has more than
 /// `SYMBOLS_LIMIT` symbols.
 /// Cost: that of `verify::check`, and that of the one citation that fails: the lengths of the
-/// results that it takes, with a logarithm for each symbol that an image is put in for, and a
-/// comparison of the images of each two variables that must be disjoint.
+/// results that it takes, log n for each symbol of its n hypotheses, and a comparison of the images
+/// of each two variables that must be disjoint.
 pub fn first_fault(
     alloc: Global,
     frames: &Frames,
@@ -50,8 +50,9 @@ pub fn first_fault(
     }
 }
 
-/// Returns the fault of the item at which the run stops. The number of an item is 0 for a mark, from 1 to the count of the
-/// labels for a citation, and greater for a recall. `labels` is the number of results cached for labels.
+/// Returns the fault of the item at which the run stops. The number of an item is 0 for a mark,
+/// from 1 to the count of the labels for a citation, and greater for a recall. `labels` is that
+/// count; the verifier saves one result for each label, as a cache, before those that are marked.
 fn item_fault(
     alloc: Global,
     frames: &Frames,
@@ -81,8 +82,8 @@ fn item_fault(
     }
 }
 
-/// Returns the fault of a recall that fails. The first `labels` saved results are cached for labels; the index counts the
-/// marked results, which follow them.
+/// Returns the fault of a recall that fails. The first `labels` saved results are those that the
+/// verifier caches for labels; the index counts the marked results, which follow them.
 fn recall_fault(results: &Results, labels: usize, index: usize) -> ItemFault
     ensures marked { index < length results.now.results.saved - labels → result ≡ TooManySymbols }
     ensures unmarked { length results.now.results.saved - labels ≤ index → result ≡ NoMarkedResult }
@@ -94,7 +95,8 @@ fn recall_fault(results: &Results, labels: usize, index: usize) -> ItemFault
     }
 }
 
-/// Returns the reason at the end of a run that does not leave the theorem's expression as its only result.
+/// Returns the reason at the end of a run that does not leave the theorem's expression as its only
+/// result.
 fn end_reason(alloc: Global, results: &Results) -> Result<Reason, AllocError>
     ensures { IfOk result (IsEndReason results.now.results.stack) }
 {

@@ -1,4 +1,5 @@
-//! Finds two variables whose images violate the disjoint variable condition.
+//! Finds two variables whose images violate the disjoint variable condition. A group is the list of
+//! the mandatory variables of one active `$d` of the cited assertion.
 ghost use Rattle.std.specs.Prelude.{◌≡◌, ◌<◌, ◌-◌, length, map, slice_get, true, IfOk, IsTrue, MatchOption};
 ghost use Rattle.std.specs.List.{list_all};
 ghost use Rattle.names.specs.Codes.{AreDistinct, name_at, decode};

@@ -27,18 +27,18 @@ pub enum CodeBreak {
     Letters(LetterBreak),
 }
 
-/// The rule that the letters of a compressed proof break, and the index of a letter, from 0, among those of all tokens after
-/// `)`.
+/// The rule that the letters of a compressed proof break, and where. The letters are those of all
+/// tokens after `)`, joined and indexed from 0.
 #[derive(Clone, Copy, Debug, Drop)]
 pub struct LetterBreak {
-    /// The index of the letter.
+    /// The index of the letter that has the fault, or that begins the letter group with the fault.
     pub letter: usize,
     /// The fault there.
     pub fault: LetterFault,
 }
 
-/// A fault of the letters at an index. The letters before it write items, or are the beginning of its letter
-/// group.
+/// A fault of the letters at an index. The letters before the index write items. For `NotLetter`,
+/// letters U to Y that begin a letter group may stand between those and the index.
 #[derive(Clone, Copy, Debug, Drop)]
 pub enum LetterFault {
     /// The byte is not one of A to Z.

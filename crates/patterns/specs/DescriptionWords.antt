@@ -6,7 +6,7 @@ use Rattle.std.specs.List.{AllByRecursion}
 use Rattle.std.specs.Str.{str_to_ascii_lowercase}
 use Rattle.mm_lex.specs.Alphabet.{Name}
 
--- the text contains the word, ignoring ASCII case
+-- the text contains the word, also inside a longer word, ignoring ASCII case
 pub record HasWord (text : List ℕ) (w : Name) : Type 0 where
   pub before : List ℕ
   pub slice : List ℕ

@@ -1,4 +1,4 @@
--- Parts that match one symbol each, and the first index at which symbols match them.
+-- Segments: parts that match one symbol each; the first index at which symbols match them.
 -- Source: none; for the private functions of `matching`.
 use Rattle.std.specs.Prelude.{◌≡◌, ℕ, zero, suc, ◌<◌, ◌≤◌, Bool, true, false, ◌&&◌, List, [], ◌∷◌, length, drop, Option, Some, None}
 use Rattle.mm_lex.specs.Alphabet.{Name, name_eq}

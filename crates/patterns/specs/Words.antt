@@ -1,4 +1,4 @@
--- The words of an argument: its runs of bytes that are not white space.
+-- The words of a text, an argument of a command line: its runs of bytes that are not white space.
 -- Source: this project's command lines.
 -- The code goes from one run to the next.
 use Rattle.std.specs.Prelude.{ℕ, List, map}

@@ -1,7 +1,10 @@
 //! Searches expressions for patterns of symbols, and descriptions for words.
 //!
-//! Reading order: `words` (the words of an argument), `part` and `pattern` (a pattern, parsed from words),
-//! `matching` (whether an expression matches a pattern), `search_words` (words in a description).
+//! A description is the comment before an assertion.
+//!
+//! Reading order: `words` (the words of a text), `part` and `pattern` (a pattern, parsed from
+//! words), `matching` (whether an expression has a run that matches a pattern), `search_words`
+//! (words in a description).
 #![tactic(auto)]
 
 mod matching;

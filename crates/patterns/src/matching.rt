@@ -1,7 +1,8 @@
 //! Matches a pattern with a contiguous run of the symbols of an expression.
 //!
-//! Between two `$*` each part matches exactly one symbol. The first index at which the symbols match
-//! these parts leaves the most symbols for the parts after them, so no other index is tried.
+//! The `$*` divide the parts into segments, in which each part matches exactly one symbol. The
+//! first index at which the symbols match a segment leaves the most symbols for the segments after
+//! it, so no other index is tried.
 ghost use Rattle.std.specs.Prelude.{◌≡◌, ◌↔◌, ◌+◌, ◌≤◌, IfSome, IsTrue, map, length};
 ghost use Rattle.patterns.specs.Matches.{Matches};
 ghost use Rattle.patterns.specs.Segments.{part_view, is_any_sequence, segment_len, matches_symbol, matches_prefix, IsFirstMatch};
@@ -14,6 +15,7 @@ use crate::part::Part;
 pub(crate) fn is_in(parts: &[Part], symbols: &[&[u8]]) -> bool
     ensures { IsTrue result ↔ Matches (map part_view parts.now) (map (λ s. s.now) symbols.now) }
 {
+    // The parts from index `from` on are sought in the symbols from index `at` on.
     let mut from = 0;
     let mut at = 0;
     'segments: loop {

@@ -38,11 +38,13 @@ impl<'a> Model for Pattern<'a> {
 }
 
 impl<'a> Pattern<'a> {
-    /// Parses a pattern: words separated by white space. `$?` matches any one symbol, `$*` any number of
-    /// symbols, and any other word the symbol that it spells.
+    /// Parses a pattern: words separated by white space. `$?` matches any one symbol, `$*` any
+    /// number of symbols, and any other word the symbol that it spells.
     ///
-    /// Errors: `UnknownWord` with the first word that has a `$` and is neither `$?` nor `$*`; else `NoSymbol`;
-    /// both even if every allocation fails; else `Memory`. Cost: the size of the text. Source: `search` of the program metamath.
+    /// Errors: `UnknownWord` with the first word that has a `$` and is neither `$?` nor `$*`; else
+    /// `NoSymbol` if no word is a symbol; else `Memory` if an allocation fails. The first two are
+    /// returned even if every allocation fails. Cost: the size of the text. Source: `search` of the
+    /// program metamath.
     pub fn parse(alloc: Global, text: &'a str) -> Result<Pattern<'a>, PatternFault<'a>>
         ensures parts { IfOk result (λ parts. parts ≡ map part_of (words_in text.now)) }
         ensures pattern { IfOk result (λ _. ArePattern (words_in text.now)) }

@@ -23,7 +23,8 @@ impl<'a> Model for SearchWords<'a> {
 }
 
 impl<'a> SearchWords<'a> {
-    /// Returns the words of a text, or `None` if it has none. Does not allocate.
+    /// Returns the words of a text, separated by white space, or `None` if it has none. Does not
+    /// allocate.
     pub fn new(text: &'a str) -> Option<SearchWords<'a>>
         ensures { MatchOption result (words_in text.now ≡ [])
             (λ words. (words ≡ words_in text.now) × (words_in text.now ≡ [] → ⊥)) }
@@ -35,8 +36,8 @@ impl<'a> SearchWords<'a> {
         }
     }
 
-    /// Returns whether a description contains each of the words, ignoring ASCII case. Does not
-    /// allocate.
+    /// Returns whether a description contains each of the words, also inside a longer word,
+    /// ignoring ASCII case. Does not allocate.
     ///
     /// Cost: at most the size of the description times that of the words.
     pub fn are_in(&self, description: &[u8]) -> bool

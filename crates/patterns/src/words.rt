@@ -1,4 +1,4 @@
-//! Splits an argument into words, and turns words into parts of a pattern.
+//! Splits a text into words, and turns words into parts of a pattern.
 ghost use Rattle.std.specs.Prelude.{◌≡◌, ◌<◌, ◌≤◌, [], ◌∷◌, map, IfOk, IfSome, MatchOption, length, option_map};
 ghost use Rattle.std.specs.List.{find, list_any};
 ghost use Rattle.mm_lex.specs.Alphabet.{has_byte};

@@ -13,7 +13,7 @@ codes es = map (λ e. e.now) es
 abbrev pub named_expressions : List Name → List (Bor (List ℕ)) → List Expr
 named_expressions names es = map (λ e. decode names e.now) es
 
--- their numbers are those of names
+-- their numbers are below n, the count of the names
 abbrev pub AreSymbols : ℕ → List (Bor (List ℕ)) → Type 0
 AreSymbols n es = AllBelow n (codes es)
 
@@ -21,7 +21,7 @@ AreSymbols n es = AllBelow n (codes es)
 abbrev pub code_images : List Image → CodeImages
 code_images images = map (λ i. (i.variable, i.symbols.now)) images
 
--- their numbers are those of names
+-- the numbers of their symbols are below n, the count of the names
 abbrev pub AreImages : ℕ → List Image → Type 0
 AreImages n images = AllBelow n (map (λ i. i.symbols.now) images)
 
