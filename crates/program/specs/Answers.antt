@@ -14,7 +14,8 @@ use Rattle.printed.specs.Trees.{label_line, tree_lines}
 abbrev pub labels_text : List ℕ → List Name → List ℕ
 labels_text word labels = counted_lines_text word (flat_map label_line labels)
 
--- the answer to the question about the label; the answers to `show` and `proof` are not specified
+-- the answer to the question about the label; the answers to `show` and `proof` are not specified;
+-- `false` in that of `usage`: only the `$p` that cite the statement, not all that rest on it
 abbrev pub IsLabelAnswer : Database → LabelQuestionKind → Name → List ℕ → Type 0
 IsLabelAnswer S Trace label text =
     (labels : List Name) × IsTrace S label labels × (text ≡ labels_text (codes "trace") labels)

@@ -20,7 +20,9 @@ use printed::{push_assertions, push_labels, push_tree};
 use std::alloc::{AllocError, Global};
 use std::io::Write;
 
-/// Writes the answer to a question about a library. `text` has the same statements, in order.
+/// Writes the answer to a question about a library. `text` has the same statements, in order, but a
+/// `$a` of the library may be a `$p` there (`--assume`); it may be empty if the answer prints
+/// neither lines and columns nor descriptions.
 ///
 /// Errors: those of the question, before anything is written; `Output` if a write fails; `Memory`
 /// if an allocation fails, perhaps after some steps of a proof.

@@ -99,7 +99,8 @@ pub fn apply_text<R: Threads + Sync>(
 }
 
 /// Prints the answer about a library, and returns the exit status. `text` has the same statements,
-/// in order. The reason for a refusal goes to `stderr`.
+/// in order, but a `$a` of the library may be a `$p` there (`--assume`). The reason for a refusal
+/// goes to `stderr`.
 pub fn answer_accepted<O: Write, F: Write>(
     alloc: Global,
     library: &Library,

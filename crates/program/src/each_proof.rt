@@ -30,9 +30,9 @@ pub fn allows_unproved(request: &DatabaseQuestion<'_>) -> bool {
     request.assumes_unproved || matches!(request.question, Question::CheckEach)
 }
 
-/// Returns whether a text has a byte `?` outside its comments, so that a proof may be unfinished.
-/// No answer depends on this: it only saves checking the whole text before its proofs are checked
-/// one by one.
+/// Returns whether a text seems to have a byte `?` outside its comments, so that a proof may be
+/// unfinished: a `$(` or `$)` inside a longer word counts too. No answer depends on this: it only
+/// saves checking the whole text before its proofs are checked one by one.
 ///
 /// Cost: the size of the text.
 pub fn may_be_unfinished(text: &[u8]) -> bool {

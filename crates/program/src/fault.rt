@@ -108,6 +108,7 @@ impl Fault {
 }
 
 impl From<io::Error> for Fault {
+    /// Returns `Output`: `?` is for writes alone. A failed read returns `Input` by its own code.
     fn from(_error: io::Error) -> Fault {
         Fault::Output
     }

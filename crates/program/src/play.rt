@@ -73,6 +73,7 @@ fn answer_common_line(
         CommonLine::Why(entry_id) => push_decision(world, entry_id, text),
         CommonLine::State { node } => {
             let (state, applied) = (world.state(node)?, world.applied(node)?);
+            // No node of `play` is down.
             Ok(push_state(text, &state, applied, false)?)
         }
         CommonLine::Ask(question) => {

@@ -60,7 +60,7 @@ fn print_reason<F: Write>(
     }
 }
 
-/// Prints why the outline of a text refuses it.
+/// Prints why the outline of a text refuses it, if allocation succeeds.
 pub fn print_outline_reason<F: Write>(alloc: Global, text: NamedText<'_>, stderr: &mut F) {
     if let Ok(Some(fault)) = outline_fault(alloc, text.bytes) {
         print_reason(alloc, text, fault, stderr);

@@ -1,4 +1,4 @@
-//! Scripts: their lines, answered one by one.
+//! Scripts and sessions (`serve --live`): their lines, answered one by one.
 use crate::fault::Fault;
 use crate::streams::{print, read_at_most};
 use commands::{Line, parse_script};
@@ -6,15 +6,15 @@ use std::alloc::Global;
 use std::io::{Read, Write};
 use std::vec::IntoIter;
 
-/// The capacity in bytes that is reserved for an answer. The answer to an event and a verdict need
-/// no more.
+/// The capacity in bytes that is reserved for an answer. An answer to an event, or with a verdict,
+/// needs no more.
 const ANSWER_CAPACITY: usize = 128;
 
 /// Nodes that answer the lines of a script or a session.
 pub trait AnswerLines<L> {
     /// Carries out a line, and appends its answer to a text.
     ///
-    /// Errors: the line is refused; the text is then discarded.
+    /// Errors: the line is refused, or an allocation fails; the text is then discarded.
     fn answer(&mut self, line: L, text: &mut Vec<u8>) -> Result<(), Fault>;
 }
 

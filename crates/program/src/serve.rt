@@ -1,4 +1,5 @@
-//! The command `serve`: lines at the desk of a cluster, whose nodes are threads.
+//! The command `serve`: lines of a script, or of a session (`serve --live`), at the desk of a
+//! cluster, whose nodes are threads.
 ghost use Rattle.std.specs.Prelude.{◌≡◌, ◌++◌, ◌≤◌, ◌<◌, List, Err, OnOk, IfOk, IsErr, IsOkUnless};
 ghost use Rattle.library.specs.declared.listed.Listed.{Listed};
 ghost use Rattle.net.specs.declared.fault.StepFault.TheVariants.{NoNode, Apart};
@@ -25,10 +26,12 @@ use std::sync::Wait;
 use std::thread;
 use std::thread::Threads;
 
-/// The greatest number of turns that `settle` waits.
+/// The greatest number of turns that the line `settle` waits. A turn is one `yield_now` of the
+/// thread (not a `Weather::turn`).
 const MAX_TURNS: u32 = 10_000_000;
 
-/// `settle` asks once in this many turns, since each ask takes the lock that the node needs.
+/// `settle` asks for the verdict once in this many turns, since to ask takes the lock that the node
+/// needs.
 const TURNS_PER_QUERY: u32 = 64;
 
 /// Reads the script unless it is a session, starts the nodes, prints the answers to the lines, and
@@ -47,7 +50,7 @@ pub fn serve<
 }
 
 /// Starts the nodes, prints the answers to the lines, and stops the nodes; returns the exit status.
-/// Every thread is joined, even if a write fails.
+/// Every thread is joined, even if a write fails, unless `stop_nodes` runs out of memory.
 fn serve_lines<
     R: AllocGlobal + Threads + Wait + Copy + Send + Sync + Drop + 'static,
     S: LineSource<ServedLine>,
@@ -127,8 +130,9 @@ fn answer_serve_line<R: Wait>(
     }
 }
 
-/// Submits an entry at a node until its verdict is known there, and returns the verdict, or `None`
-/// if it is not known after the tries of `Desk::add`.
+/// Submits an entry at a node until its verdict is known there, and returns the verdict: `Repeat`
+/// if another entry was first under its author and serial number, and `None` if none is known after
+/// the tries of `Desk::add`.
 fn add_until_decided<R: Wait>(
     rt: &R,
     desk: &NodesDesk,
@@ -195,8 +199,8 @@ fn status<R: Wait>(
     desk.status(rt, entry_id.node, entry_id.author, entry_id.serial)
 }
 
-/// Returns the verdict as soon as it is known, or `None` if it is not known after `MAX_TURNS`
-/// turns.
+/// Returns the verdict of the node's library on the entry as soon as it is known, or `None` if it
+/// is not known after `MAX_TURNS` turns.
 fn wait_for_verdict<R: Wait>(
     rt: &R,
     desk: &NodesDesk,

@@ -16,17 +16,19 @@ use synod::{Keep, Weights};
 use verify_pool::{OpenGate, PoolSize};
 use world::Carried;
 
-/// How often at most a cluster is asked again to stop after a failed allocation.
+/// The greatest number of times that a cluster is asked again to stop after a failed allocation.
 const MAX_RETRIES: u32 = 1000;
 
-/// The nodes of one process, each with a keep in memory.
+/// The nodes of one process, each with a keep in memory: the store of what outlives a restart.
+/// Contracts see of them only how many they are.
 pub type Nodes = Cluster<OpenGate, MemoryKeep<Carried>>;
 
-/// A desk of such nodes.
+/// A desk of such nodes. Contracts see of it only how many nodes there are: `desk.now ≤ node`
+/// says that there is no such node.
 pub type NodesDesk = Desk<OpenGate, MemoryKeep<Carried>>;
 
-/// Starts a node for each weight, with the weather that the seed draws, or a clear one without a
-/// seed. The gate lets each thread pass at once.
+/// Starts a node for each weight. `weather` is the seed from which the weather of each node is
+/// drawn; without a seed the weather is clear. The gate lets each thread pass at once.
 ///
 /// Errors: `Memory` if an allocation fails or a thread cannot be started; then no thread is left
 /// running.
@@ -73,9 +75,10 @@ fn keeps(alloc: Global, count: u8) -> Result<Vec<MemoryKeep<Carried>>, AllocErro
 }
 
 /// Stops the nodes and joins their threads. If the allocation of their report fails, they are asked
-/// again.
+/// again. The clause says that their number stays the same.
 ///
-/// Errors: those of the last attempt.
+/// Errors: `Stopped` if they were stopped before; `Memory` if each attempt fails, and then they
+/// keep running.
 pub fn stop_nodes<R: Threads + Wait>(rt: &R, nodes: &mut Nodes) -> Result<(), StepFault>
     ensures { nodes.new ≡ nodes.old }
 {

@@ -1,4 +1,5 @@
-//! The lines that `serve` answers: those of a script that is read whole, or those of a session.
+//! The lines that `serve` answers: those of a script that is read whole, or those of a session
+//! (`serve --live`), in which each line is answered before the next one is read.
 ghost use Rattle.std.specs.Prelude.{◌≤◌, OnOk, vec_len};
 
 use crate::fault::Fault;
@@ -49,9 +50,10 @@ impl LineSource<ServedLine> for Script {
 pub struct Session<'a, I: Read> {
     alloc: Global,
     input: BufReader<&'a mut I>,
-    /// The bytes of the line that was read last, and of the lines of its text.
+    /// The bytes of the line that was read last, and of the lines after it that are the text that
+    /// it submits.
     text: Vec<u8>,
-    /// How many lines were read.
+    /// How many lines were read, with the empty ones and those of texts.
     number: usize,
 }
 
@@ -114,6 +116,7 @@ impl<'a, I: Read> Session<'a, I> {
     /// Appends the lines that are the text of the line, if it has its text on the lines that
     /// follow.
     fn read_text(&mut self) -> Result<(), Fault> {
+        // The length of the line in bytes, with its line feed.
         let line = self.text.len();
         match text_end(first_line(self.text.as_slice())) {
             None => Ok(()),

@@ -1,4 +1,5 @@
-//! The command `show`: statements as blocks of lines.
+//! The command `show`: statements as blocks of lines (not the blocks of `${` and `$}`). The
+//! description of a statement is the last comment between the statement before it and itself.
 use crate::fault::Fault;
 use crate::named_text::NamedText;
 use library::{AskFault, Library};

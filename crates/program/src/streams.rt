@@ -14,8 +14,8 @@ pub fn read_text<I: Read>(alloc: Global, input: &mut I) -> Result<Vec<u8>, Fault
 
 /// Reads the whole input, or its first `most` bytes.
 ///
-/// Reserves room for the longest text first, if allocation succeeds, so that no byte is moved
-/// later; pages of memory that stay unused cost nothing.
+/// Reserves room for the longest database first, if allocation succeeds, so that no byte of a
+/// database is moved later; pages of memory that stay unused cost nothing.
 pub fn read_at_most<I: Read>(alloc: Global, input: &mut I, most: usize) -> Result<Vec<u8>, Fault> {
     let mut text = Vec::new(alloc);
     let _ = text.reserve(most.min(MAX_BYTES));

@@ -18,13 +18,13 @@ use std::collections::BTreeSet;
 pub enum Decision {
     /// Nothing is decided.
     Unknown,
-    /// The entry was added.
+    /// The entry was added: its text, or a charter that came into force.
     Added,
     /// The entry was refused.
     Refused(RefusedEntry),
 }
 
-/// A refused entry, and the texts and statements that the library had then.
+/// A refused entry, the texts that were added before it, and the library's statements now.
 #[derive(Drop)]
 pub struct RefusedEntry {
     cause: Cause,

@@ -11,7 +11,8 @@ use scope::Scope;
 use std::alloc::Global;
 use verify::{Answer, Tree, TreeFault, check, derivation};
 
-/// If an allocation fails, the same call made again returns the number of nodes.
+/// If an allocation fails, the same call made again returns the number of nodes. (`right` in the
+/// name means correct, not at once.)
 #[test]
 fn right_after_a_failed_allocation(rt: HostRuntime) {
     for text in [NORMAL_EXAMPLE, COMPRESSED_EXAMPLE] {
@@ -23,7 +24,9 @@ fn right_after_a_failed_allocation(rt: HostRuntime) {
     }
 }
 
-/// Returns the number of nodes of the tree of the text's last proof: 0 if the proof is wrong, `None` if an allocation fails.
+/// Returns the number of nodes of the tree of the text's last proof: 0 if the proof is wrong or its
+/// tree is too large, `None` if an allocation fails, the text does not read or is not legal, or its
+/// last statement has no proof that writes items.
 /// The symbols of a `$c` serve as the list of the theorem's mandatory labels, which is `tt` alone.
 fn node_count_of_text(alloc: Global, text: &[u8]) -> Option<usize> {
     match (read(alloc, text), read(alloc, b"$c tt $.")) {

@@ -49,8 +49,9 @@ fn decides_texts(alloc: Global, library: &mut Library) -> bool {
     true
 }
 
-/// Returns whether the library decides the text as expected. If an allocation fails, it must have decided nothing, and the call
-/// is repeated.
+/// Applies the text to the library as an entry, and returns whether its verdict is the expected
+/// one. If an allocation fails, the library must have decided nothing, and the text is applied
+/// again.
 fn is_decided(
     alloc: Global,
     library: &mut Library,
@@ -62,6 +63,7 @@ fn is_decided(
     match verdict_of(alloc, library, serial, text) {
         Some(verdict) => verdict == expected,
         None => {
+            // Each `entry` is of author 1.
             library.status(1, serial).is_none()
                 && library.statements().len() == before
                 && verdict_of(alloc, library, serial, text) == Some(expected)

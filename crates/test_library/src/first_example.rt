@@ -1,4 +1,5 @@
-//! Helpers that the tests share: the book's first example, adding statements to a scope and frames, and the items of a proof.
+//! Helpers of `derivations` and `pool_workers`: the book's first example; for any text, adding its
+//! statements to a scope and frames, and the items of a proof.
 ghost use Rattle.std.specs.Prelude.{◌≡◌, ◌∷◌, ◌++◌, [], OnSome, IfSome};
 ghost use Rattle.mm_read.specs.Statements.{IsShaped, AreShaped, Database};
 ghost use Rattle.scope.specs.Active.{bare};
@@ -27,14 +28,15 @@ pub const COMPRESSED_EXAMPLE: &[u8] =
     a2 $a |- ( t + 0 ) = t $. ${ min $e |- P $. maj $e |- ( P -> Q ) $. mp $a |- Q $. $} \
     th1 $p |- t = t $= ( tze tpl weq a2 wim a1 mp ) ABCZADZAADZAEZJJKFLIAAGHH $.";
 
-/// Adds the statement to the scope and the frames, or returns `None` if it is not legal as the next one or an allocation fails.
+/// Adds the statement to the scope and the frames, or returns `None` if it is not legal as the next
+/// one or an allocation fails; the frames may then have a statement that the scope lacks.
 pub fn push_statement(scope: &mut Scope, frames: &mut Frames, stmt: &Stmt) -> Option<()>
     requires same { scope.old.statements ≡ frames.old.statements }
     requires shaped { IsShaped stmt.now }
     ensures same { OnSome result (scope.new.statements ≡ frames.new.statements) }
     ensures added { OnSome result (frames.new.statements ≡ frames.old.statements ++ bare stmt.now ∷ []) }
 {
-    // `Steps` is a count that contracts alone see.
+    // `Steps` counts the statements that are given; contracts alone see the count.
     let mut steps = Steps::new();
     if scope.broken_rule(stmt).is_some() {
         return None;

@@ -6,7 +6,9 @@
 //! A test of failed allocations calls again what ran out of memory. By itself it runs with ample memory;
 //! `bench/failed_allocations` runs it once for each of its allocations, with that allocation failing.
 //!
-//! `first_example`, `rendezvous` and `text_entries` are helpers that the other modules share.
+//! Helpers that modules share: all of `first_example` and `rendezvous`, and in modules that also
+//! have tests `text_entries` (`entry`, `with_new_library`, `verdict_on`) and `library_workers`
+//! (`verdict_by_workers`).
 #![tactic(auto)]
 
 #[cfg(test)]

@@ -117,6 +117,7 @@ fn long_text_judged_alike(rt: HostRuntime) -> Result<(), Fail> {
 
 /// Which of the proofs of the long text are wrong, by number from 0, and the verdict. The theorem of number n is the statement
 /// at position n + 3, since a `$c` and a `$a` precede the theorems.
+/// Statement 8,193 is the last of the first part, whose proofs are judged ahead.
 const LONG_CASES: [(&[u64], Verdict); 4] = [
     (&[], Verdict::Added),
     (
@@ -151,7 +152,8 @@ fn push_theorem(text: &mut Vec<u8>, number: u64, is_right: bool) -> Result<(), A
     text.extend_from_slice(proof)
 }
 
-/// The first two proofs are judged in parallel by two workers: each waits at the gate until the other has arrived there.
+/// The first two proofs are judged in parallel by two workers: each waits at the gate
+/// (`verify_pool::Gate`) until the other has arrived there, or gives up.
 #[test]
 fn gate_two_proofs(rt: HostRuntime) {
     let rendezvous = Rendezvous::new();

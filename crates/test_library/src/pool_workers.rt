@@ -28,7 +28,8 @@ fn answered_after_a_failed_allocation(rt: HostRuntime) {
     assert_eq!(rt; answer, Some(None));
 }
 
-/// The first two jobs are judged in parallel by two workers: each waits at the gate until the other has arrived there.
+/// The first two jobs are judged in parallel by two workers: each waits at the gate
+/// (`verify_pool::Gate`) until the other has arrived there, or gives up.
 #[test]
 fn gate_two_jobs(rt: HostRuntime) {
     let rendezvous = Rendezvous::new();
@@ -176,7 +177,8 @@ fn items_with_retry(alloc: Global, tokens: &Words) -> Result<Items, CodeFault> {
     }
 }
 
-/// Adds the job of the statement that was pushed last, if it is a `$p`.
+/// Adds the job of the statement that was pushed last, if it is a `$p`. Returns `None` if an
+/// allocation fails. A proof without items gets a job without items, which is not right.
 fn push_job(alloc: Global, frames: &Frames, stmt: &Stmt, jobs: &mut Vec<Job>) -> Option<()>
     requires { (S : Database) × (frames.now.statements ≡ S ++ bare stmt.now ∷ []) × AreJobs S jobs.old.items }
     ensures { AreJobs frames.now.statements jobs.new.items }

@@ -7,6 +7,8 @@ use std::alloc::{AllocError, Global};
 
 /// Tokens of proofs, and the numbers of the items that they write where h1 to h130 are the mandatory labels. The number 0 is a
 /// mark, one up to the count of labels cites a label, and a greater one recalls a marked result.
+/// The labels of a compressed proof are the mandatory ones and then those in its parentheses; the
+/// labels of a normal proof are its tokens, one for each, so a label may be there twice.
 const NUMBERS: [(&[u8], &[u32]); 4] = [
     (b"( ) TUAYTUUA", &[20, 21, 120, 121]),
     (b"( b ) A BZ U A U B ZC", &[1, 2, 0, 21, 22, 0, 3]),
@@ -80,7 +82,8 @@ fn has_fault(alloc: Global, tokens: &[u8], expected: CodeFault) -> bool {
     }
 }
 
-/// Returns the items that the tokens write where h1 to h130 are the mandatory labels.
+/// Returns the items that the tokens write where h1 to h130 are the mandatory labels. `Memory` also
+/// stands for tokens that do not read as the proof of a `$p`, which no case has.
 fn items_of(alloc: Global, tokens: &[u8]) -> Result<Items, CodeFault> {
     let Ok(text) = text_of(alloc, tokens) else {
         return Err(CodeFault::Memory);

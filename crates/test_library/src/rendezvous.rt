@@ -24,7 +24,8 @@ impl Rendezvous {
         }
     }
 
-    /// Returns whether neither job gave up waiting.
+    /// Returns whether neither job gave up waiting; `true` also if none arrived. After a call that
+    /// judged both jobs, `true` says that they met.
     pub fn has_met(&self) -> bool {
         !self.timed_out.load(Ordering::SeqCst)
     }

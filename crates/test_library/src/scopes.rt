@@ -32,7 +32,7 @@ fn adds_all(scope: &mut Scope, statements: &[Stmt]) -> bool
     requires { AreShaped statements.now }
 {
     for stmt in statements {
-        // `Steps` is a count that contracts alone see.
+        // `Steps` counts the statements that are given; contracts alone see the count.
         if scope.add(stmt, &mut Steps::new()).is_err() || !has_copy(scope) {
             return false;
         }

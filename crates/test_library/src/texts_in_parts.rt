@@ -8,7 +8,8 @@ use std::thread::Threads;
 /// A comment that contains a `$.`, and one statement.
 const LINE: &[u8] = b"$( $c b $. $) $c a $.\n";
 
-/// The number of lines of the text, which has more than 4 MiB and so is split into at most four parts.
+/// The number of lines of the text, which has 4.2 MiB: it is split into as many parts as there are
+/// workers, at most four, since a part has at least 1 MiB on average.
 const LINES: usize = 200_000;
 
 #[test]

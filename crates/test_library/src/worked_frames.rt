@@ -69,7 +69,7 @@ fn frame_in(alloc: Global, scope: &mut Scope, statements: &[Stmt], count: usize)
         if scope.len() == count {
             return frame_of(alloc, scope, stmt);
         }
-        // `Steps` is a count that contracts alone see.
+        // `Steps` counts the statements that are given; contracts alone see the count.
         scope.add(stmt, &mut Steps::new()).ok()?;
     }
     None
