@@ -39,7 +39,7 @@ pub fn outcome_on(cell: &NodeCell, entry: &Entry) -> Option<Verdict>
     ensures outcome { IsOutcomeOf cell.now entry.now result }
 {
     let verdict = cell.library().status(entry.author(), entry.serial())?;
-    if is_first(cell.entries(), entry) {
+    if is_first_with_key(cell.entries(), entry) {
         Some(verdict)
     } else {
         Some(Verdict::Repeat)
@@ -47,7 +47,7 @@ pub fn outcome_on(cell: &NodeCell, entry: &Entry) -> Option<Verdict>
 }
 
 /// Returns whether this entry is the first of `entries` with its author and serial number.
-fn is_first(entries: &[Option<Carried>], entry: &Entry) -> bool
+fn is_first_with_key(entries: &[Option<Carried>], entry: &Entry) -> bool
     ensures { IsTrue result ↔ (first_with_key entry.now entries.now ≡ Some (record { 0 = entry.now })) }
 {
     for found in entries {

@@ -79,11 +79,11 @@ fn request<'a>(alloc: Global, matches: &ArgMatches<'a>) -> Result<Request<'a>, C
         Some(("serve", options)) => {
             let nodes = node_count(alloc, options)?;
             let workers = worker_count(alloc, options)?;
-            let weather = weather_seed(alloc, options)?;
+            let seed = weather_seed(alloc, options)?;
             Ok(Request::Serve(ServeOptions {
                 weights: weights(alloc, options, nodes)?,
                 workers,
-                weather,
+                weather_seed: seed,
                 is_live: options.get_flag("live"),
             }))
         }

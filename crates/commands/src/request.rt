@@ -39,7 +39,7 @@ pub struct ServeOptions {
     pub workers: WorkerCount,
     /// `--weather`: the seed of a generator that draws which packets are lost, repeated or delayed;
     /// `None` if none are.
-    pub weather: Option<u64>,
+    pub weather_seed: Option<u64>,
     /// `--live`: each line is answered before the next one is read.
     pub is_live: bool,
 }

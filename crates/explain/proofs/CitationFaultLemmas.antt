@@ -1,5 +1,5 @@
 -- Hypotheses that require other results than they have.
-use Rattle.explain.proofs.Words.{◌≡◌, ℕ, ◌+◌, ◌<◌, List, [], ◌∷◌, ◌++◌, length, take, get_or, map, refl, sym, ◌∙◌, ap, subst, add-one, Some, slice_get, Bor, Vec, take-suc, slice_get-get_or, slice_get_read, take-map, map_push, Name, Stmt, Database, Expr, stmt_at, expr_of, name_at, decode, AreDistinct, Hypothesis, AreBelow, IsNumberedHypothesis, IsStatementOf, IsTypecode, expr_at, option_expr, ItemFault, UnknownLabel, Inactive, NotEarlier, TooFewResults, OtherTypecode, OtherExpression, NotDisjoint, TooManySymbols, NoMarkedResult, named_expressions, before, hypotheses, images_read, named_images, AreVariables, required_result, AllMatch, IsFirstMismatch, HasOtherTypecode, HasOtherTypecodeThan, HasOtherTypecodeNumber, IsFloat, IsFaultOfResult, IsMismatchFault, map-at, name_at-injective, decode-injective}
+use Rattle.explain.proofs.Words.{◌≡◌, ℕ, ◌+◌, ◌<◌, List, [], ◌∷◌, ◌++◌, length, take, get_or, map, refl, sym, ◌∙◌, ap, subst, add-one, Some, slice_get, Bor, Vec, take-suc, slice_get-get_or, slice_get_read, take-map, map_push, Name, Stmt, Database, Expr, stmt_at, expr_of, name_at, decode, AreDistinct, Hypothesis, AreBelow, IsNumberedHypothesis, IsStatementOf, IsTypecode, expr_at, option_expr, ItemFault, UnknownLabel, Inactive, NotEarlier, TooFewResults, OtherTypecode, OtherExpression, NotDisjoint, TooManySymbols, NoMarkedResult, named_expressions, before, hypotheses, images_read, named_images, AreVariablesBelow, required_result, AllMatch, IsFirstMismatch, HasOtherTypecode, HasOtherTypecodeThan, HasOtherTypecodeNumber, IsFloat, IsFaultOfResult, IsMismatchFault, map-at, name_at-injective, decode-injective}
 use Rattle.mm_read.specs.declared.stmt.Stmt.TheVariants as stmt
 use Rattle.entries.specs.declared.assertion_view.Hypothesis.TheVariants as hypothesis
 use Rattle.frame.specs.Substitution.{Images, CodeImages, code_apply, apply as applied}
@@ -76,7 +76,7 @@ module _ (S : Database) (names : List Name) (distinct : AreDistinct names) (p ty
       by (stmt.Prove l w r) (hypothesis.Essential q) first of float = absurd float
 
 -- the result that a hypothesis requires, computed by number
-pub required_is : (S : Database) (names : List Name) → AreDistinct names → (σ : CodeImages) → AreVariables (length names) σ → (p : ℕ) (s : Stmt) → stmt_at S p ≡ Some s
+pub required_is : (S : Database) (names : List Name) → AreDistinct names → (σ : CodeImages) → AreVariablesBelow (length names) σ → (p : ℕ) (s : Stmt) → stmt_at S p ≡ Some s
     → (e : List ℕ) → decode names e ≡ expr_of s → AreBelow (length names) e → (required : List ℕ) → required ≡ code_apply σ e → decode names required ≡ required_result S (named_images names σ) p
 required_is S names distinct σ variables p s stands e is below required same =
     ap (decode names) same ∙ (apply_same names distinct σ e variables below ∙ ap (λ x. applied (named_images names σ) x) (is ∙ sym (expr_is S p s stands)))

@@ -1,5 +1,5 @@
 -- Images by number and by name.
-use Rattle.explain.proofs.Words.{◌≡◌, ℕ, zero, suc, ◌+◌, ◌<◌, Bool, true, false, cond, List, [], ◌∷◌, ◌++◌, length, drop, get_or, map, arith, refl, sym, ◌∙◌, ap, add-one, append_assoc, Some, nat_eq, Bor, Name, name_eq, Stmt, Database, stmt_at, name_at, decode, AreDistinct, Hypothesis, Float, Essential, AreBelow, AreNumberedHypotheses, IsStatementOf, CodeImages, code_image, code_apply, image, apply, same-number, Image, codes, code_images, named_expressions, image_at, images_read, code_image_at, code_images_read, named_images, AreVariables, decode-append}
+use Rattle.explain.proofs.Words.{◌≡◌, ℕ, zero, suc, ◌+◌, ◌<◌, Bool, true, false, cond, List, [], ◌∷◌, ◌++◌, length, drop, get_or, map, arith, refl, sym, ◌∙◌, ap, add-one, append_assoc, Some, nat_eq, Bor, Name, name_eq, Stmt, Database, stmt_at, name_at, decode, AreDistinct, Hypothesis, Float, Essential, AreBelow, AreNumberedHypotheses, IsStatementOf, CodeImages, code_image, code_apply, image, apply, same-number, Image, codes, code_images, named_expressions, image_at, images_read, code_image_at, code_images_read, named_images, AreVariablesBelow, decode-append}
 use Rattle.mm_read.specs.declared.stmt.Stmt.TheVariants as stmt
 
 decode-drop : (names : List Name) (e : List ℕ) → decode names (drop 1 e) ≡ drop 1 (decode names e)
@@ -14,7 +14,7 @@ named-append names (p ∷ σ) τ = ap (λ r. (name_at names p.0, decode names p.
 
 module _ (names : List Name) (distinct : AreDistinct names) where
   -- the image of a number, decoded, is the image of its name
-  pub image_same : (σ : CodeImages) (x : ℕ) → AreVariables (length names) σ → x < length names → decode names (code_image σ x) ≡ image (named_images names σ) (name_at names x)
+  pub image_same : (σ : CodeImages) (x : ℕ) → AreVariablesBelow (length names) σ → x < length names → decode names (code_image σ x) ≡ image (named_images names σ) (name_at names x)
   image_same [] x h l = refl
   image_same (p ∷ σ) x h l = by (nat_eq x p.0) refl (image_same σ x h.1 l)
     where
@@ -27,7 +27,7 @@ module _ (names : List Name) (distinct : AreDistinct names) where
       by false e rest = ap (λ b. decode names (cond b p.1 (code_image σ x))) e ∙ (rest ∙ sym (ap (λ b. cond b (decode names p.1) (image (named_images names σ) (name_at names x))) (sym same ∙ e)))
 
   -- decoding after substitution by number is substitution by name after decoding
-  pub apply_same : (σ : CodeImages) (e : List ℕ) → AreVariables (length names) σ → AreBelow (length names) e → decode names (code_apply σ e) ≡ apply (named_images names σ) (decode names e)
+  pub apply_same : (σ : CodeImages) (e : List ℕ) → AreVariablesBelow (length names) σ → AreBelow (length names) e → decode names (code_apply σ e) ≡ apply (named_images names σ) (decode names e)
   apply_same σ [] h l = refl
   apply_same σ (x ∷ e) h l =
       decode-append names (code_image σ x) (code_apply σ e)
@@ -37,7 +37,7 @@ module _ (names : List Name) (distinct : AreDistinct names) where
 
 -- the image that a hypothesis gives from its result is the same by number and by name
 image_is : (S : Database) (names : List Name) (p : ℕ) (s : Stmt) (h : Hypothesis) (e : List ℕ) → stmt_at S p ≡ Some s → IsStatementOf names p s h
-    → (named_images names (code_image_at h e) ≡ image_at (stmt_at S p) (decode names e)) × AreVariables (length names) (code_image_at h e)
+    → (named_images names (code_image_at h e) ≡ image_at (stmt_at S p) (decode names e)) × AreVariablesBelow (length names) (code_image_at h e)
 image_is S names p (stmt.Float l c v) (Float x) e stands is =
     (ap (λ y. (y, decode names (drop 1 e)) ∷ []) is.1 ∙ (ap (λ d. (v, d) ∷ []) (decode-drop names e) ∙ ap (λ o. image_at o (decode names e)) (sym stands)), (is.0, tt))
 image_is S names p (stmt.Ess l e') (Essential q) e stands is = (ap (λ o. image_at o (decode names e)) (sym stands), tt)
@@ -58,13 +58,13 @@ image_is S names p (stmt.Axiom l w) (Essential q) e stands is = absurd is
 image_is S names p (stmt.Prove l w r) (Float x) e stands is = absurd is
 image_is S names p (stmt.Prove l w r) (Essential q) e stands is = absurd is
 
-variables-append : (n : ℕ) (σ τ : CodeImages) → AreVariables n σ → AreVariables n τ → AreVariables n (σ ++ τ)
+variables-append : (n : ℕ) (σ τ : CodeImages) → AreVariablesBelow n σ → AreVariablesBelow n τ → AreVariablesBelow n (σ ++ τ)
 variables-append n [] τ h k = k
 variables-append n (p ∷ σ) τ h k = (h.0, variables-append n σ τ h.1 k)
 
 -- the images that all hypotheses give from their results are the same by number and by name
 pub images_are : (S : Database) (names : List Name) (ps typecodes : List ℕ) (hs : List Hypothesis) (es : List (List ℕ)) → AreNumberedHypotheses S names ps typecodes hs
-    → (named_images names (code_images_read hs es) ≡ images_read S ps (map (decode names) es)) × AreVariables (length names) (code_images_read hs es)
+    → (named_images names (code_images_read hs es) ≡ images_read S ps (map (decode names) es)) × AreVariablesBelow (length names) (code_images_read hs es)
 images_are S names [] [] [] es required = (refl, tt)
 images_are S names [] (x ∷ typecodes) hs es required = absurd required
 images_are S names [] [] (h ∷ hs) es required = absurd required

@@ -1,5 +1,5 @@
 -- The list of the variables of an expression, each once.
-use Rattle.explain.proofs.Words.{◌≡◌, ℕ, zero, suc, ◌+◌, ◌<◌, Bool, true, false, not, ◌||◌, true≢false, List, [], ◌∷◌, ◌++◌, length, take, get_or, arith, refl, sym, ◌∙◌, ap, subst, add-one, Some, slice_get, ◌⊎◌, inl, inr, ⊎_elim, cond, Vec, list_all, BTreeSet, contains, nat_cmp, is_eq, cases_Bool, cases_eq, or_cases, list_any-append, slice_get_within, get_or_from_slice_get, Name, name_eq, has_name, Expr, Database, is_variable, all-has, name_at, decode, name_same, same_name, AreBelow, are_disjoint, is_pair, all-from, kept_by, Image, AreUnpairedIn, is_permitted_pair, AreImages, AreListsOf, AreVariablesOf}
+use Rattle.explain.proofs.Words.{◌≡◌, ℕ, zero, suc, ◌+◌, ◌<◌, Bool, true, false, not, ◌||◌, true≢false, List, [], ◌∷◌, ◌++◌, length, take, get_or, arith, refl, sym, ◌∙◌, ap, subst, add-one, Some, slice_get, ◌⊎◌, inl, inr, ⊎_elim, cond, Vec, list_all, BTreeSet, contains, nat_cmp, is_eq, cases_Bool, cases_eq, or_cases, list_any-append, slice_get_within, get_or_from_slice_get, Name, name_eq, has_name, Expr, Database, is_variable, all-has, name_at, decode, name_same, same_name, AreBelow, are_disjoint, is_pair, all-from, kept_by, Image, AreUnpairedIn, is_permitted_pair, AreImages, AreListsOf, HasVariablesOf}
 use Rattle.explain.proofs.ImagesLemmas.{other_key}
 use Rattle.explain.proofs.ViolationLemmas.{has_at}
 
@@ -83,20 +83,20 @@ lists-length S names (x ∷ images) [] h = absurd h
 lists-length S names (x ∷ images) (l ∷ lists) h = ap suc (lists-length S names images lists h.1)
 
 pub list-at : (S : Database) (names : List Name) (images : List Image) (lists : List (Vec ℕ)) (i : ℕ) (image : Image) (list : Vec ℕ) → AreListsOf S names images lists
-    → slice_get images i ≡ Some image → i < length lists → list ≡ get_or lists i list → AreVariablesOf S names image.symbols.now list.items
+    → slice_get images i ≡ Some image → i < length lists → list ≡ get_or lists i list → HasVariablesOf S names image.symbols.now list.items
 list-at S names [] lists i image list h e inside is = cc
 list-at S names (x ∷ images) [] i image list h e inside is = absurd h
 list-at S names (x ∷ images) (l ∷ lists) zero image list h e inside is =
     let same : x ≡ image = cc in
-    subst (λ k. AreVariablesOf S names image.symbols.now k.items) (sym is) (subst (λ y. AreVariablesOf S names y.symbols.now l.items) same h.0)
+    subst (λ k. HasVariablesOf S names image.symbols.now k.items) (sym is) (subst (λ y. HasVariablesOf S names y.symbols.now l.items) same h.0)
 list-at S names (x ∷ images) (l ∷ lists) (suc i) image list h e inside is = list-at S names images lists i image list h.1 e (omega (arith, inside)) is
 
 pub lists-push : (S : Database) (names : List Name) (images : List Image) (lists new : List (Vec ℕ)) (k : ℕ) (d : Image) (list : Vec ℕ) → AreListsOf S names (take k images) lists
-    → k < length images → AreVariablesOf S names (get_or images k d).symbols.now list.items → new ≡ lists ++ list ∷ [] → AreListsOf S names (take (k + 1) images) new
+    → k < length images → HasVariablesOf S names (get_or images k d).symbols.now list.items → new ≡ lists ++ list ∷ [] → AreListsOf S names (take (k + 1) images) new
 lists-push S names images lists new k d list h inside one added =
     subst (λ l. AreListsOf S names (take (k + 1) images) l) (sym added) (subst (λ n. AreListsOf S names (take n images) (lists ++ list ∷ [])) (sym (add-one k)) (go images lists k inside one h))
   where
-    go : (images : List Image) (lists : List (Vec ℕ)) (k : ℕ) → k < length images → AreVariablesOf S names (get_or images k d).symbols.now list.items → AreListsOf S names (take k images) lists
+    go : (images : List Image) (lists : List (Vec ℕ)) (k : ℕ) → k < length images → HasVariablesOf S names (get_or images k d).symbols.now list.items → AreListsOf S names (take k images) lists
         → AreListsOf S names (take (suc k) images) (lists ++ list ∷ [])
     go [] lists k inside one h = absurd (omega (arith, inside))
     go (x ∷ images) [] zero inside one h = (one, tt)
@@ -105,20 +105,20 @@ lists-push S names images lists new k d list h inside one added =
     go (x ∷ images) (l ∷ lists) (suc k) inside one h = (h.0, go images lists k (omega (arith, inside)) one h.1)
 
 -- the list of an image that is one symbol may be that symbol
-pub own-list : (S : Database) (names : List Name) (x : ℕ) (image own : List ℕ) → x < length names → image ≡ x ∷ [] → own ≡ x ∷ [] → AreVariablesOf S names image own
+pub own-list : (S : Database) (names : List Name) (x : ℕ) (image own : List ℕ) → x < length names → image ≡ x ∷ [] → own ≡ x ∷ [] → HasVariablesOf S names image own
 own-list S names x image own low is same =
-    subst (λ e. AreVariablesOf S names e own) (sym is) (subst (λ e. AreVariablesOf S names (x ∷ []) e) (sym same) (record { below = (low, tt); each = λ v h k. h; only = λ v h. h }))
+    subst (λ e. HasVariablesOf S names e own) (sym is) (subst (λ e. HasVariablesOf S names (x ∷ []) e) (sym same) (record { below = (low, tt); each = λ v h k. h; only = λ v h. h }))
 
 -- ---- disjointness of expressions, by their lists of variables
 
 module _ (S : Database) (names : List Name) where
   -- if a test passes all symbols that are no variables, and the list, it passes the expression
-  all-list : (p : Name → Bool) (e l : List ℕ) → AreVariablesOf S names e l → ((v : Name) → is_variable S v ≡ false → p v ≡ true) → list_all p (decode names l) ≡ true → list_all p (decode names e) ≡ true
+  all-list : (p : Name → Bool) (e l : List ℕ) → HasVariablesOf S names e l → ((v : Name) → is_variable S v ≡ false → p v ≡ true) → list_all p (decode names l) ≡ true → list_all p (decode names e) ≡ true
   all-list p e l of others h =
       all-from p (decode names e) (λ v stands. ⊎_elim (λ t. all-has p v (decode names l) h (of.each v stands t)) (λ f. others v f) (cases_Bool (is_variable S v)))
 
   -- an expression without variables is disjoint from each other expression
-  pub no_variables : (e l : List ℕ) (f : Expr) → AreVariablesOf S names e l → length l ≡ 0 → are_disjoint S (decode names e) f ≡ true
+  pub no_variables : (e l : List ℕ) (f : Expr) → HasVariablesOf S names e l → length l ≡ 0 → are_disjoint S (decode names e) f ≡ true
   no_variables e l f of none =
       all-list (λ u. list_all (is_permitted_pair S u) f) e l of (λ u no. all-from (is_permitted_pair S u) f (λ v stands. kept_by (is_variable S u) (is_variable S v) (is_pair S u v) no)) (empty l none)
     where
@@ -126,7 +126,7 @@ module _ (S : Database) (names : List Name) where
       empty [] h = refl
       empty (x ∷ l) h = absurd (omega (arith, h))
 
-  pub disjoint_lists : (e f l m : List ℕ) → AreVariablesOf S names e l → AreVariablesOf S names f m → are_disjoint S (decode names l) (decode names m) ≡ true → are_disjoint S (decode names e) (decode names f) ≡ true
+  pub disjoint_lists : (e f l m : List ℕ) → HasVariablesOf S names e l → HasVariablesOf S names f m → are_disjoint S (decode names l) (decode names m) ≡ true → are_disjoint S (decode names e) (decode names f) ≡ true
   disjoint_lists e f l m of by h =
       all-list (λ u. list_all (is_permitted_pair S u) (decode names f)) e l of
       (λ u no. all-from (is_permitted_pair S u) (decode names f) (λ v stands. kept_by (is_variable S u) (is_variable S v) (is_pair S u v) no))
@@ -138,5 +138,5 @@ module _ (S : Database) (names : List Name) where
       kept_last true b c e = rw e
       kept_last false b c e = refl
 
-  pub unpaired_lists : (u v : Name) (e f l m : List ℕ) → AreVariablesOf S names e l → AreVariablesOf S names f m → AreUnpairedIn S u v (decode names l) (decode names m) → AreUnpairedIn S u v (decode names e) (decode names f)
+  pub unpaired_lists : (u v : Name) (e f l m : List ℕ) → HasVariablesOf S names e l → HasVariablesOf S names f m → AreUnpairedIn S u v (decode names l) (decode names m) → AreUnpairedIn S u v (decode names e) (decode names f)
   unpaired_lists u v e f l m of by h = record { first = of.only u h.first; second = by.only v h.second; unpaired = h.unpaired }

@@ -8,10 +8,10 @@ pub use Rattle.explain.specs.CitationResults.{CitationGives, named_without_cache
 pub use Rattle.explain.specs.FirstFault.{IsItemFault, IsCitationFault, IsLabelCitationFault, IsFirstFault, RunsWithinLimit}
 pub use Rattle.explain.specs.ImageIndexes.{IsImageIndex}
 pub use Rattle.explain.specs.LettersBefore.{IsReadTo, zeros}
-pub use Rattle.explain.specs.ReadImages.{AreVariables, code_image_at, code_images_read, image_at, images_read, named_images}
+pub use Rattle.explain.specs.ReadImages.{AreVariablesBelow, code_image_at, code_images_read, image_at, images_read, named_images}
 pub use Rattle.explain.specs.Stored.DisjointPairs.{AreDisjointPairs, IsDisjointPair, IsPairAt, IsPairOf}
 pub use Rattle.explain.specs.Stored.CodeSlices.{AreImages, AreSymbols, code_images, codes, named_expressions}
-pub use Rattle.explain.specs.VariableLists.{AreListsOf, AreSeen, AreVariablesOf}
+pub use Rattle.explain.specs.VariableLists.{AreListsOf, AreSeen, HasVariablesOf}
 pub use Rattle.explain.specs.WrongResults.{AreCorrectResults, IsResultsFault, images_of}
 pub use Rattle.explain.specs.declared.disjoint_pairs.VariablePair.{VariablePair}
 pub use Rattle.explain.specs.declared.images.Image.{Image}

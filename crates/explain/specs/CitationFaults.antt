@@ -10,7 +10,7 @@ use Rattle.explain.specs.declared.reason.ItemFault.{ItemFault}
 use Rattle.explain.specs.declared.reason.ItemFault.TheVariants.{OtherTypecode, OtherExpression}
 use Rattle.explain.specs.declared.images.Image.{Image}
 use Rattle.explain.specs.Stored.CodeSlices.{named_expressions, code_images}
-use Rattle.explain.specs.ReadImages.{images_read, named_images, AreVariables}
+use Rattle.explain.specs.ReadImages.{images_read, named_images, AreVariablesBelow}
 
 -- the result that the hypothesis at p requires: its expression with the images substituted
 abbrev pub required_result : Database → Images → ℕ → Expr
@@ -75,4 +75,4 @@ abbrev pub AreImagesOfResults : Numbered → ℕ → List (Bor (List ℕ)) → L
 AreImagesOfResults f a results images =
     (s : Stmt) → stmt_at f.statements a ≡ Some s
     → (named_images f.names (code_images images) ≡ images_read f.statements (hypotheses (before f.statements a) s) (named_expressions f.names results))
-    × AreVariables (length f.names) (code_images images)
+    × AreVariablesBelow (length f.names) (code_images images)

@@ -32,6 +32,6 @@ abbrev pub named_images : List Name → CodeImages → Images
 named_images names σ = map (λ p. (name_at names p.0, decode names p.1)) σ
 
 -- the number of each variable is that of a name, below n; a constant is not excluded
-abbrev pub AreVariables : ℕ → CodeImages → Type 0
-AreVariables n [] = Unit {0}
-AreVariables n (p ∷ σ) = (p.0 < n) × AreVariables n σ
+abbrev pub AreVariablesBelow : ℕ → CodeImages → Type 0
+AreVariablesBelow n [] = Unit {0}
+AreVariablesBelow n (p ∷ σ) = (p.0 < n) × AreVariablesBelow n σ

@@ -9,7 +9,7 @@ use Rattle.explain.specs.declared.variable_lists.VariableList.{VariableList}
 
 -- the list has the variables of the expression, and no symbol that the expression does not have; it
 -- may have constants of the expression
-pub record AreVariablesOf (S : Database) (names : List Name) (expr list : List ℕ) : Type 0 where
+pub record HasVariablesOf (S : Database) (names : List Name) (expr list : List ℕ) : Type 0 where
   pub below : AreBelow (length names) list
   pub each : (v : Name) → IsTrue (has_name v (decode names expr)) → IsTrue (is_variable S v) → IsTrue (has_name v (decode names list))
   pub only : (v : Name) → IsTrue (has_name v (decode names list)) → IsTrue (has_name v (decode names expr))
@@ -17,7 +17,7 @@ pub record AreVariablesOf (S : Database) (names : List Name) (expr list : List �
 -- there is such a list for each image
 abbrev pub AreListsOf : Database → List Name → List Image → List (Vec ℕ) → Type 0
 AreListsOf S names [] [] = Unit {0}
-AreListsOf S names (image ∷ images) (list ∷ lists) = AreVariablesOf S names image.symbols.now list.items × AreListsOf S names images lists
+AreListsOf S names (image ∷ images) (list ∷ lists) = HasVariablesOf S names image.symbols.now list.items × AreListsOf S names images lists
 AreListsOf S names images lists = ⊥
 
 -- the list has each number that was seen

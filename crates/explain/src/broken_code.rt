@@ -71,14 +71,14 @@ fn compressed_break(
     ensures { IfOk result (IsBreak tokens.now mandatory.now) }
 {
     match label_set(alloc, mandatory) {
-        Some(mandatory_set) => listed_break(alloc, tokens, mandatory, &mandatory_set),
+        Some(mandatory_set) => code_break_with_set(alloc, tokens, mandatory, &mandatory_set),
         None => Err(AllocError),
     }
 }
 
 /// Returns the rule that a compressed proof without the byte `?` breaks, in its listed labels or in
 /// its letters, given the mandatory labels also as a set.
-fn listed_break(
+fn code_break_with_set(
     alloc: Global,
     tokens: &Words,
     mandatory: &Words,

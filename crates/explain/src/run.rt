@@ -51,7 +51,7 @@ pub fn first_fault(
 }
 
 /// Returns the fault of the item at which the run stops. The number of an item is 0 for a mark,
-/// from 1 to the count of the labels for a citation, and greater for a recall. `labels` is that
+/// from 1 to the count of the labels for a citation, and greater for a recall. `label_count` is that
 /// count; the verifier saves one result for each label, as a cache, before those that are marked.
 fn item_fault(
     alloc: Global,
@@ -59,13 +59,13 @@ fn item_fault(
     at: usize,
     items: &Items,
     item: usize,
-    labels: usize,
+    label_count: usize,
     results: &Results,
 ) -> Result<ItemFault, AllocError>
     requires position { (1 ≤ at) × (at ≤ length frames.now.statements) }
     requires item { item < length items.now }
-    requires stopped { IsStopped frames.now.statements at frames.now.names items.now item labels results.now.results }
-    ensures { (failing : Item) → slice_get items.now item ≡ Some failing → IfOk result (IsItemFault frames.now.statements frames.now.names at (named_without_cached frames.now labels results.now) failing) }
+    requires stopped { IsStopped frames.now.statements at frames.now.names items.now item label_count results.now.results }
+    ensures { (failing : Item) → slice_get items.now item ≡ Some failing → IfOk result (IsItemFault frames.now.statements frames.now.names at (named_without_cached frames.now label_count results.now) failing) }
 {
     let parts = items.parts();
     let number = parts.numbers[item] as usize;
@@ -74,7 +74,7 @@ fn item_fault(
     }
     let positions = frames.positions(parts.labels)?;
     if number > positions.len() {
-        return Ok(recall_fault(results, labels, number - positions.len() - 1));
+        return Ok(recall_fault(results, label_count, number - positions.len() - 1));
     }
     match positions[number - 1] {
         Some(statement) => citation_fault(alloc, frames, at, statement, results),
@@ -82,13 +82,13 @@ fn item_fault(
     }
 }
 
-/// Returns the fault of a recall that fails. The first `labels` saved results are those that the
+/// Returns the fault of a recall that fails. The first `label_count` saved results are those that the
 /// verifier caches for labels; the index counts the marked results, which follow them.
-fn recall_fault(results: &Results, labels: usize, index: usize) -> ItemFault
-    ensures marked { index < length results.now.results.saved - labels → result ≡ TooManySymbols }
-    ensures unmarked { length results.now.results.saved - labels ≤ index → result ≡ NoMarkedResult }
+fn recall_fault(results: &Results, label_count: usize, index: usize) -> ItemFault
+    ensures marked { index < length results.now.results.saved - label_count → result ≡ TooManySymbols }
+    ensures unmarked { length results.now.results.saved - label_count ≤ index → result ≡ NoMarkedResult }
 {
-    if index < results.saved_len().saturating_sub(labels) {
+    if index < results.saved_len().saturating_sub(label_count) {
         ItemFault::TooManySymbols
     } else {
         ItemFault::NoMarkedResult

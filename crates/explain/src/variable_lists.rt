@@ -5,7 +5,7 @@ ghost use Rattle.mm_read.specs.Statements.{Database};
 ghost use Rattle.frame.specs.Below.{AreBelow};
 ghost use Rattle.frame.specs.Substitution.{code_image};
 ghost use Rattle.explain.specs.Stored.CodeSlices.{AreImages, code_images};
-ghost use Rattle.explain.specs.VariableLists.{AreListsOf, AreSeen, AreVariablesOf, IsAdded};
+ghost use Rattle.explain.specs.VariableLists.{AreListsOf, AreSeen, HasVariablesOf, IsAdded};
 
 use crate::images::Images;
 use frame::Pairs;
@@ -63,7 +63,7 @@ fn is_at(list: &[u32], index: usize, code: u32) -> bool
 /// Errors: an allocation fails. Cost: linear in the symbols, times log n for n variables if they are many.
 fn variables_of(alloc: Global, pairs: &Pairs<'_>, symbols: &[u32]) -> Result<Vec<u32>, AllocError>
     requires { AreBelow (length pairs.now.names) symbols.now }
-    ensures { IfOk result (λ list. AreVariablesOf pairs.now.statements pairs.now.names symbols.now list.items) }
+    ensures { IfOk result (λ list. HasVariablesOf pairs.now.statements pairs.now.names symbols.now list.items) }
 {
     let mut variables = VariableList {
         list: Vec::new(alloc),
@@ -105,7 +105,7 @@ pub fn list_or<'a>(
     requires count { length lists.now ≡ length images.now }
     requires alone { alone.now ≡ symbol ∷ [] }
     ensures { (S : Database) (names : List Name) → AreListsOf S names images.now lists.entry.now → symbol < length names
-        → AreVariablesOf S names (code_image (code_images images.now) symbol) result.now }
+        → HasVariablesOf S names (code_image (code_images images.now) symbol) result.now }
 {
     match images.index_of(symbol) {
         Some(i) => lists[i].as_slice(),

@@ -7,7 +7,7 @@ ghost use Rattle.frame.specs.Below.{AreBelow, AllBelow};
 ghost use Rattle.frame.specs.Substitution.{image};
 ghost use Rattle.frame.specs.Disjoint.{are_disjoint, is_group_disjoint, are_groups_disjoint};
 ghost use Rattle.explain.specs.Stored.CodeSlices.{AreImages, code_images};
-ghost use Rattle.explain.specs.ReadImages.{named_images, AreVariables};
+ghost use Rattle.explain.specs.ReadImages.{named_images, AreVariablesBelow};
 ghost use Rattle.explain.specs.DisjointViolations.{IsViolation, IsViolationIn, IsViolationWith, is_permitted_pair, is_other_disjoint, IsUnpairedIn, AreUnpairedIn};
 ghost use Rattle.explain.specs.VariableLists.{AreListsOf};
 ghost use Rattle.explain.specs.Stored.DisjointPairs.{AreDisjointPairs, IsDisjointPair};
@@ -41,7 +41,7 @@ pub fn find_violation(
 ) -> Result<Option<DisjointViolation>, AllocError>
     requires groups { AllBelow (length pairs.now.names) groups.now }
     requires images { AreImages (length pairs.now.names) images.now }
-    requires variables { AreVariables (length pairs.now.names) (code_images images.now) }
+    requires variables { AreVariablesBelow (length pairs.now.names) (code_images images.now) }
     requires distinct { AreDistinct pairs.now.names }
     ensures { IfOk result (λ found. MatchOption found
         (are_groups_disjoint pairs.now.statements (named_images pairs.now.names (code_images images.now)) (map (decode pairs.now.names) groups.now) ≡ true)
@@ -65,7 +65,7 @@ fn violation_of(
 ) -> Option<DisjointViolation>
     requires groups { AllBelow (length pairs.now.names) groups.now }
     requires lists { AreListsOf pairs.now.statements pairs.now.names images.now lists.now }
-    requires variables { AreVariables (length pairs.now.names) (code_images images.now) }
+    requires variables { AreVariablesBelow (length pairs.now.names) (code_images images.now) }
     requires distinct { AreDistinct pairs.now.names }
     requires known_disjoint { AreDisjointPairs pairs.now.statements pairs.now.names (named_images pairs.now.names (code_images images.now)) known_disjoint.old.pairs.items }
     ensures { MatchOption result
@@ -108,7 +108,7 @@ fn violation_in(
 ) -> Option<DisjointViolation>
     requires group { AreBelow (length pairs.now.names) group.now }
     requires lists { AreListsOf pairs.now.statements pairs.now.names images.now lists.now }
-    requires variables { AreVariables (length pairs.now.names) (code_images images.now) }
+    requires variables { AreVariablesBelow (length pairs.now.names) (code_images images.now) }
     requires distinct { AreDistinct pairs.now.names }
     requires known_disjoint { AreDisjointPairs pairs.now.statements pairs.now.names (named_images pairs.now.names (code_images images.now)) known_disjoint.old.pairs.items }
     ensures violation { MatchOption result
@@ -143,7 +143,7 @@ fn violation_with(
     requires first { first < length pairs.now.names }
     requires group { AreBelow (length pairs.now.names) group.now }
     requires lists { AreListsOf pairs.now.statements pairs.now.names images.now lists.now }
-    requires variables { AreVariables (length pairs.now.names) (code_images images.now) }
+    requires variables { AreVariablesBelow (length pairs.now.names) (code_images images.now) }
     requires distinct { AreDistinct pairs.now.names }
     requires known_disjoint { AreDisjointPairs pairs.now.statements pairs.now.names (named_images pairs.now.names (code_images images.now)) known_disjoint.old.pairs.items }
     ensures violation { MatchOption result
@@ -195,7 +195,7 @@ fn unpaired_in_images(
     requires first { first < length pairs.now.names }
     requires second { second < length pairs.now.names }
     requires lists { AreListsOf pairs.now.statements pairs.now.names images.now lists.now }
-    requires variables { AreVariables (length pairs.now.names) (code_images images.now) }
+    requires variables { AreVariablesBelow (length pairs.now.names) (code_images images.now) }
     requires distinct { AreDistinct pairs.now.names }
     requires known_disjoint { AreDisjointPairs pairs.now.statements pairs.now.names (named_images pairs.now.names (code_images images.now)) known_disjoint.old.pairs.items }
     ensures unpaired { MatchOption result

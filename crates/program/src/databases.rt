@@ -1,6 +1,6 @@
 //! Commands about a database: they read and check it, and answer the question.
 use crate::answers::write_answer;
-use crate::each_proof::{allows_unproved, answer_unproved, may_be_unfinished};
+use crate::unproved_proofs::{allows_unproved, answer_unproved, may_be_unfinished};
 use crate::fault::Fault;
 use crate::named_text::NamedText;
 use crate::refused_questions::print_refused_question;

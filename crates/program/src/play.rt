@@ -70,7 +70,7 @@ fn answer_common_line(
         }
         CommonLine::Export { node } => Ok(push_export(text, world.library(node)?)?),
         CommonLine::Log { node } => Ok(push_log(text, world.log(node)?.as_slice())?),
-        CommonLine::Why(entry_id) => push_decision(world, entry_id, text),
+        CommonLine::Why(entry_id) => push_why_at(world, entry_id, text),
         CommonLine::State { node } => {
             let (state, applied) = (world.state(node)?, world.applied(node)?);
             // No node of `play` is down.
@@ -90,7 +90,7 @@ fn answer_common_line(
 }
 
 /// Appends why the node refused an entry.
-fn push_decision(world: &World, entry_id: NodeEntryId, text: &mut Vec<u8>) -> Result<(), Fault> {
+fn push_why_at(world: &World, entry_id: NodeEntryId, text: &mut Vec<u8>) -> Result<(), Fault> {
     let alloc = *text.allocator();
     let mut entries = world.log(entry_id.node)?;
     entries.truncate(world.applied(entry_id.node)? as usize);

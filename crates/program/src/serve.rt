@@ -61,7 +61,7 @@ fn serve_lines<
         rt.alloc(),
         options.weights,
         options.workers,
-        options.weather,
+        options.weather_seed,
     )?;
     let answered = answer_at_desk(rt, &nodes, lines, output);
     let stopped = stop_nodes(rt, &mut nodes);

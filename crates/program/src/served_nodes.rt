@@ -27,7 +27,7 @@ pub type Nodes = Cluster<OpenGate, MemoryKeep<Carried>>;
 /// says that there is no such node.
 pub type NodesDesk = Desk<OpenGate, MemoryKeep<Carried>>;
 
-/// Starts a node for each weight. `weather` is the seed from which the weather of each node is
+/// Starts a node for each weight. `seed` is that from which the weather of each node is
 /// drawn; without a seed the weather is clear. The gate lets each thread pass at once.
 ///
 /// Errors: `Memory` if an allocation fails or a thread cannot be started; then no thread is left
@@ -37,7 +37,7 @@ pub fn start_nodes<R: Threads + Wait + Copy + Send + Sync + Drop + 'static>(
     alloc: Global,
     weights: Weights,
     workers: WorkerCount,
-    weather: Option<u64>,
+    seed: Option<u64>,
 ) -> Result<Nodes, StepFault>
     ensures nodes { IfOk result (λ nodes. nodes ≡ length weights) }
     ensures only_memory { IsOkUnless result Memory }
@@ -46,7 +46,7 @@ pub fn start_nodes<R: Threads + Wait + Copy + Send + Sync + Drop + 'static>(
     let Ok(gate) = Arc::new(alloc, OpenGate) else {
         return Err(StepFault::Memory);
     };
-    let weathers = weathers(alloc, count, weather)?;
+    let weathers = weathers(alloc, count, seed)?;
     let keeps = keeps(alloc, count)?;
     start(
         rt,

@@ -116,12 +116,12 @@ impl<'a, I: Read> Session<'a, I> {
     /// Appends the lines that are the text of the line, if it has its text on the lines that
     /// follow.
     fn read_text(&mut self) -> Result<(), Fault> {
-        // The length of the line in bytes, with its line feed.
-        let line = self.text.len();
+        // The line feed included.
+        let line_length = self.text.len();
         match text_end(first_line(self.text.as_slice())) {
             None => Ok(()),
             Some(TextEnd::AfterBytes(count)) => {
-                self.read_bytes(line.saturating_add(count as usize).saturating_add(1))
+                self.read_bytes(line_length.saturating_add(count as usize).saturating_add(1))
             }
             Some(TextEnd::AtWord(word)) => {
                 let word = Vec::from_slice(self.alloc, word)?;

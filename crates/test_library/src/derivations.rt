@@ -3,7 +3,7 @@ ghost use Rattle.std.specs.Prelude.{◌≡◌, ◌∷◌, ◌++◌, []};
 ghost use Rattle.mm_read.specs.Statements.{AreShaped, Database};
 ghost use Rattle.scope.specs.Active.{bare};
 
-use crate::first_example::{COMPRESSED_EXAMPLE, NORMAL_EXAMPLE, items_of, push_statements};
+use crate::pushed_statements::{COMPRESSED_EXAMPLE, NORMAL_EXAMPLE, items_of, push_statements};
 use frame::Frames;
 use mm_lex::Words;
 use mm_read::{Stmt, read};
@@ -14,7 +14,7 @@ use verify::{Answer, Tree, TreeFault, check, derivation};
 /// If an allocation fails, the same call made again returns the number of nodes. (`right` in the
 /// name means correct, not at once.)
 #[test]
-fn right_after_a_failed_allocation(rt: HostRuntime) {
+fn correct_after_a_failed_allocation(rt: HostRuntime) {
     for text in [NORMAL_EXAMPLE, COMPRESSED_EXAMPLE] {
         let mut node_count = node_count_of_text(rt.alloc(), text);
         if node_count.is_none() {

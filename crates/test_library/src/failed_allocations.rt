@@ -40,7 +40,7 @@ fn new_library_decides_texts(alloc: Global) -> bool {
 /// Returns whether each text has its verdict, and the library has the expected number of statements after it.
 fn decides_texts(alloc: Global, library: &mut Library) -> bool {
     for (serial, text, verdict, count) in CASES {
-        if !is_decided(alloc, library, serial, text, verdict)
+        if !decides_text(alloc, library, serial, text, verdict)
             || library.statements().len() != count
         {
             return false;
@@ -52,7 +52,7 @@ fn decides_texts(alloc: Global, library: &mut Library) -> bool {
 /// Applies the text to the library as an entry, and returns whether its verdict is the expected
 /// one. If an allocation fails, the library must have decided nothing, and the text is applied
 /// again.
-fn is_decided(
+fn decides_text(
     alloc: Global,
     library: &mut Library,
     serial: u64,

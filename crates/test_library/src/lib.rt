@@ -6,7 +6,7 @@
 //! A test of failed allocations calls again what ran out of memory. By itself it runs with ample memory;
 //! `bench/failed_allocations` runs it once for each of its allocations, with that allocation failing.
 //!
-//! Helpers that modules share: all of `first_example` and `rendezvous`, and in modules that also
+//! Helpers that modules share: all of `pushed_statements` and `rendezvous`, and in modules that also
 //! have tests `text_entries` (`entry`, `with_new_library`, `verdict_on`) and `library_workers`
 //! (`verdict_by_workers`).
 #![tactic(auto)]
@@ -16,7 +16,7 @@ mod derivations;
 #[cfg(test)]
 mod failed_allocations;
 #[cfg(test)]
-mod first_example;
+mod pushed_statements;
 #[cfg(test)]
 mod library_workers;
 #[cfg(test)]

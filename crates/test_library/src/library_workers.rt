@@ -155,9 +155,9 @@ fn push_theorem(text: &mut Vec<u8>, number: u64, is_right: bool) -> Result<(), A
 /// The first two proofs are judged in parallel by two workers: each waits at the gate
 /// (`verify_pool::Gate`) until the other has arrived there, or gives up.
 #[test]
-fn gate_two_proofs(rt: HostRuntime) {
+fn two_proofs_meet_at_gate(rt: HostRuntime) {
     let rendezvous = Rendezvous::new();
     let verdict = verdict_by_workers(&rt, rt.alloc(), 2, TWO_PROOFS, &rendezvous);
     assert!(rt; verdict == Some(Verdict::Added));
-    assert!(rt; rendezvous.has_met());
+    assert!(rt; rendezvous.has_not_timed_out());
 }

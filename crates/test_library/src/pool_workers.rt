@@ -4,7 +4,7 @@ ghost use Rattle.mm_read.specs.Statements.{Database, AreShaped, IsShaped};
 ghost use Rattle.scope.specs.Active.{bare};
 ghost use Rattle.verify_pool.specs.Jobs.{AreJobs};
 
-use crate::first_example::push_statement;
+use crate::pushed_statements::push_statement;
 use crate::rendezvous::Rendezvous;
 use frame::Frames;
 use mm_lex::Words;
@@ -35,7 +35,7 @@ fn gate_two_jobs(rt: HostRuntime) {
     let rendezvous = Rendezvous::new();
     let answer = answer_of(&rt, rt.alloc(), TWO_PROOFS, 2, &rendezvous);
     assert_eq!(rt; answer, Some(None));
-    assert!(rt; rendezvous.has_met());
+    assert!(rt; rendezvous.has_not_timed_out());
 }
 
 /// Returns the answer of `check_all` for the proofs of a text: the index of the first wrong one, if one is wrong. Returns
@@ -185,8 +185,8 @@ fn push_job(alloc: Global, frames: &Frames, stmt: &Stmt, jobs: &mut Vec<Job>) ->
 {
     if let Stmt::Prove { proof, .. } = stmt {
         let at = frames.len();
-        let code = items_with_retry(alloc, proof).ok();
-        jobs.push(Job { at, code }).ok()?;
+        let items = items_with_retry(alloc, proof).ok();
+        jobs.push(Job { at, items }).ok()?;
     }
     Some(())
 }

@@ -26,7 +26,7 @@ impl Rendezvous {
 
     /// Returns whether neither job gave up waiting; `true` also if none arrived. After a call that
     /// judged both jobs, `true` says that they met.
-    pub fn has_met(&self) -> bool {
+    pub fn has_not_timed_out(&self) -> bool {
         !self.timed_out.load(Ordering::SeqCst)
     }
 

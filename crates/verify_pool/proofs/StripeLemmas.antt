@@ -1,5 +1,5 @@
 -- From the answers for the stripes to the answer for all jobs.
-use Rattle.verify_pool.proofs.Words.{◌≡◌, ℕ, zero, suc, refl, List, [], ◌∷◌, same_Some, none-some, IsIn, IsFoundInStripe, IsSettled, ◌+◌, ◌*◌, ◌/◌, ◌%◌, ◌<◌, ◌≤◌, ◌⊎◌, inl, inr, Option, Some, None, IfSome, arith, sym, subst, below_more, mod-lt, add-one, suc-mul, cases_lt, IsBefore, IsWrongAt, IsStripeRightBefore, IsLeastInStripe, IsNoLater}
+use Rattle.verify_pool.proofs.Words.{◌≡◌, ℕ, zero, suc, refl, List, [], ◌∷◌, same_Some, none-some, IsIn, IsFoundInStripe, IsSettled, ◌+◌, ◌*◌, ◌/◌, ◌%◌, ◌<◌, ◌≤◌, ◌⊎◌, inl, inr, Option, Some, None, IfSome, arith, sym, subst, below_more, mod-lt, add-one, suc-mul, cases_lt, IsBefore, IsWrongAt, IsStripeRightBefore, IsStripeSettled, IsNoLater}
 use Rattle.std.proofs.lemmas.Nat.{mul-le, div-add-mod'}
 
 -- a turn before the next turn is this one or an earlier one
@@ -33,7 +33,7 @@ module _ (right : ℕ → Type 0) (count step : ℕ) where
 
   -- a stripe with its own answer is added to the stripes before it
   pub one_stripe_more : (stripe : ℕ) (least answer both : Option ℕ) → IsNoLater both least → IsNoLater both answer
-      → IsLeastInStripe right count stripe step answer → ((q : ℕ) → q < stripe → IsStripeRightBefore right count q step least)
+      → IsStripeSettled right count stripe step answer → ((q : ℕ) → q < stripe → IsStripeRightBefore right count q step least)
       → (q : ℕ) → q < stripe + 1 → IsStripeRightBefore right count q step both
   one_stripe_more stripe least answer both first second here before =
       below_more (λ q. IsStripeRightBefore right count q step both) stripe
@@ -123,7 +123,7 @@ module _ (right : ℕ → Type 0) (count first step : ℕ) where
       ]
 
   -- if no deferred jobs are left, each job before the answer is right
-  pub settled-all : (least : Option ℕ) → IsFoundInStripe right count first step least [] → IsLeastInStripe right count first step least
+  pub settled-all : (least : Option ℕ) → IsFoundInStripe right count first step least [] → IsStripeSettled right count first step least
   settled-all least found = record {
     before = λ turn within below. elim (found.before turn within below) [ inl r ↦ r | inr i ↦ absurd (none (first + turn * step) i) ];
     wrong = found.wrong;

@@ -6,5 +6,5 @@ pub use Rattle.std.proofs.lemmas.Option.{none-some, same_Some, slice_get_read, s
 pub use Rattle.verify.specs.Right.{IsAnswerTo}
 pub use Rattle.verify_pool.specs.Jobs.{AreJobs, IsWrongJobAt, IsJob, IsRightAt, IsRightJob, IsFirstWrongJob}
 pub use Rattle.verify_pool.specs.Least.{IsBefore, IsLeast, IsWrongAt}
-pub use Rattle.verify_pool.specs.Stripes.{IsFoundInStripe, IsIn, IsLeastInStripe, IsNoLater, IsSettled, IsStripeRightBefore}
+pub use Rattle.verify_pool.specs.Stripes.{IsFoundInStripe, IsIn, IsStripeSettled, IsNoLater, IsSettled, IsStripeRightBefore}
 pub use Rattle.verify_pool.specs.declared.job.Job.{Job}

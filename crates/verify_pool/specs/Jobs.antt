@@ -25,7 +25,7 @@ AreJobs S jobs = (k : ℕ) (job : Job) → slice_get jobs k ≡ Some job → IsJ
 
 -- the job has items, and they are a right proof of its `$p`
 abbrev pub IsRightJob : Database → Job → Type 0
-IsRightJob S job = MatchOption job.code ⊥ (λ items. IsRight S job.at items)
+IsRightJob S job = MatchOption job.items ⊥ (λ items. IsRight S job.at items)
 
 -- the job of that index, if there is one, is right
 abbrev pub IsRightAt : Database → List Job → ℕ → Type 0

@@ -12,7 +12,7 @@ IsStripeRightBefore right count first step answer =
 
 -- each job of the stripe before the answer is right, and the answer, if there is one, is the index
 -- of a job that is not right. It may be a job of another stripe: `IsLeast` follows all the same.
-pub record IsLeastInStripe (right : ℕ → Type 0) (count first step : ℕ) (answer : Option ℕ) : Type 0 where
+pub record IsStripeSettled (right : ℕ → Type 0) (count first step : ℕ) (answer : Option ℕ) : Type 0 where
   pub before : IsStripeRightBefore right count first step answer
   pub wrong : IfSome answer (IsWrongAt right count)
 

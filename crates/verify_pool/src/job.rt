@@ -23,7 +23,7 @@ pub struct Job {
     /// The position of the `$p`.
     pub at: usize,
     /// The items of its proof. A job without items is not right.
-    pub code: Option<Items>,
+    pub items: Option<Items>,
 }
 
 /// Returns the least index, from 0, of a job that is not right; `None` if each is right.
@@ -97,7 +97,7 @@ fn check_job(frames: &Frames, job: &Job, checker: &mut Checker) -> Result<Answer
     ensures kept { IsCacheFor frames.now.statements frames.now.names checker.new }
     ensures answer { IfOk result (λ answer. IsAnswerTo answer (IsRightJob frames.now.statements job.now)) }
 {
-    match &job.code {
+    match &job.items {
         Some(items) => checker.check(frames, job.at, items),
         None => Ok(Answer::Wrong),
     }

@@ -2,7 +2,7 @@
 
 ghost use Rattle.std.specs.Prelude.{◌≡◌, ◌+◌, ◌<◌, ◌≤◌, ◌⊎◌, ◌↔◌, ℕ, [], length, true, false, IfOk, IsTrue};
 ghost use Rattle.verify_pool.specs.Least.{IsBefore, IsLeast};
-ghost use Rattle.verify_pool.specs.Stripes.{AreFound, IsFoundInStripe, IsIn, IsLeastInStripe, IsNoLater, IsSettled};
+ghost use Rattle.verify_pool.specs.Stripes.{AreFound, IsFoundInStripe, IsIn, IsStripeSettled, IsNoLater, IsSettled};
 
 use crate::checkers::{Checkers, Worker};
 use crate::gate::{Gate, OpenGate, Place};
@@ -173,14 +173,14 @@ fn judge_stripe<W: Work, G: Gate>(
 {
     worker.deferred.clear();
     work.begin(&mut worker.checker);
-    worker.least = least_in_stripe(work, first, step, worker, gate);
+    worker.least = found_in_stripe(work, first, step, worker, gate);
 }
 
 /// Judges the jobs `first`, `first + step` and so on, up to the first that is found not to be
 /// right, and returns its index. A job before it that was put off may not be right either.
 ///
 /// Errors: a job can neither be judged nor be put off. Cost: that of the jobs that are judged.
-fn least_in_stripe<W: Work, G: Gate>(
+fn found_in_stripe<W: Work, G: Gate>(
     work: &W,
     first: usize,
     step: usize,
@@ -197,7 +197,7 @@ fn least_in_stripe<W: Work, G: Gate>(
     let mut index = first;
     while index < count {
         gate.pass(Place::Job(index));
-        if is_wrong(work, index, &mut worker.checker, &mut worker.deferred)? {
+        if is_found_wrong(work, index, &mut worker.checker, &mut worker.deferred)? {
             return Ok(Some(index));
         }
         index += step;
@@ -209,7 +209,7 @@ fn least_in_stripe<W: Work, G: Gate>(
 /// appended to `deferred`, and `false` is returned, right or not.
 ///
 /// Errors: it cannot be appended. Cost: that of the job.
-fn is_wrong<W: Work>(
+fn is_found_wrong<W: Work>(
     work: &W,
     index: usize,
     checker: &mut Checker,
@@ -245,7 +245,7 @@ fn judge_deferred<W: Work>(
 ) -> Result<Option<usize>, AllocError>
     requires { (first : ℕ) × ((step : ℕ) × IsFoundInStripe (W.right work.now) (W.count work.now) first step least deferred.now) }
     ensures { (first step : ℕ) → IsFoundInStripe (W.right work.now) (W.count work.now) first step least deferred.now
-        → IfOk result (λ least. IsLeastInStripe (W.right work.now) (W.count work.now) first step least) }
+        → IfOk result (λ least. IsStripeSettled (W.right work.now) (W.count work.now) first step least) }
 {
     let mut least = least;
     work.begin(checker);

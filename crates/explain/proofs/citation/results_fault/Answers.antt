@@ -1,4 +1,4 @@
-use Rattle.explain.proofs.Words.{◌∙◌, ap, sym, subst, length, refl, map, before, AreDistinct, decode, AllBelow, hypotheses, AreImages, codes, code_images, named_expressions, named_images, images_read, AreVariables}
+use Rattle.explain.proofs.Words.{◌∙◌, ap, sym, subst, length, refl, map, before, AreDistinct, decode, AllBelow, hypotheses, AreImages, codes, code_images, named_expressions, named_images, images_read, AreVariablesBelow}
 use Rattle.explain.proofs.VectorLemmas.{required-kinds}
 use Rattle.explain.proofs.NamedLemmas.{images_are, named-codes}
 use Rattle.explain.proofs.WrongResultsLemmas.{wrong_is, violation_moved, disjoint_moved}
@@ -32,7 +32,7 @@ first_mismatch-requires-clause-read c s e =
     let fact = c.in_ok-images.ensures.read in
     let is = fact in
     let are = images_are S names ps c.args.cited.now.typecodes.now c.args.cited.now.hypotheses (codes c.args.results.now) cited.numbered_hypotheses in
-    (ap (named_images names) is ∙ (are.0 ∙ ap (images_read S ps) (named-codes names c.args.results.now)), subst (λ σ. AreVariables (length names) σ) (sym is) are.1)
+    (ap (named_images names) is ∙ (are.0 ∙ ap (images_read S ps) (named-codes names c.args.results.now)), subst (λ σ. AreVariablesBelow (length names) σ) (sym is) are.1)
 
 pub find_violation-requires-clause-variables : goal.find_violation-requires-clause-variables
 find_violation-requires-clause-variables c =
@@ -41,7 +41,7 @@ find_violation-requires-clause-variables c =
     let ps = hypotheses (before S c.args.cited_at) s in
     let is = c.in_ok-images.ensures.read in
     let are = images_are S names ps c.args.cited.now.typecodes.now c.args.cited.now.hypotheses (codes c.args.results.now) cited.numbered_hypotheses in
-    subst (λ ns. AreVariables (length ns) (code_images c.in_ok-images.images)) (sym c.active_pairs-pairs.ensures.names) (subst (λ σ. AreVariables (length names) σ) (sym is) are.1)
+    subst (λ ns. AreVariablesBelow (length ns) (code_images c.in_ok-images.images)) (sym c.active_pairs-pairs.ensures.names) (subst (λ σ. AreVariablesBelow (length names) σ) (sym is) are.1)
 
 pub find_violation-requires-clause-distinct : goal.find_violation-requires-clause-distinct
 find_violation-requires-clause-distinct c = subst (λ ns. AreDistinct ns) (sym c.active_pairs-pairs.ensures.names) c.requires.legal.distinct

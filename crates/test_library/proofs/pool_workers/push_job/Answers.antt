@@ -13,7 +13,7 @@ returns-in_err-ok c =
 
 pub returns-in_ok-ok : goal.returns-in_ok-ok
 returns-in_ok-ok c =
-    let job : Job = record { at = c.len-at.result; code = c.ok-code.result } in
+    let job : Job = record { at = c.len-at.result; items = c.ok-items.result } in
     let more : c.push.new.self.items ≡ c.args.jobs.now.items ++ job ∷ [] = search rules in
     subst (AreJobs c.args.frames.now.statements) (sym more)
     (next_job c.requires.0 c.args.frames.now.statements (bare c.args.stmt.now) c.args.jobs.now.items job c.requires.1 c.requires.2 (search rules) c.len-at.ensures)

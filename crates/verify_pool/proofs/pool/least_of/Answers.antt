@@ -1,4 +1,4 @@
-use Rattle.verify_pool.proofs.Words.{ℕ, arith, length, subst, sym, IfOk, List, IsFoundInStripe, IsLeastInStripe}
+use Rattle.verify_pool.proofs.Words.{ℕ, arith, length, subst, sym, IfOk, List, IsFoundInStripe, IsStripeSettled}
 use Rattle.verify_pool.proofs.StripeLemmas.{one_stripe_more, one_of_two, stripes_are_all}
 use Rattle.verify_pool.specs.declared.checkers.Worker.{Worker}
 use Rattle.verify_pool.proofs.pool.least_of.Goals as goal
@@ -21,7 +21,7 @@ loop-worker-preserved g c =
     let step = length c.args.workers.now in
     let told = subst (λ (w : Worker). IfOk w.least (λ least. IsFoundInStripe right count i step least w.deferred.items)) (sym c.worker-item.is) (c.requires.found i c.worker-item.result c.loop-worker-test.true) in
     let here = subst (λ r. IfOk r (λ least. IsFoundInStripe right count i step least c.worker-item.result.deferred.items)) c.in_ok-worker.was told in
-    let found : IsLeastInStripe right count i step c.in_ok-found.found =
+    let found : IsStripeSettled right count i step c.in_ok-found.found =
     c.in_ok-found.ensures i step (subst (λ (ns : List ℕ). IsFoundInStripe right count i step c.in_ok-worker.field-0 ns) (sym c.deref.ensures.value) here) in
     let both = c.earlier-least in
     record {

@@ -1,6 +1,6 @@
 use Rattle.explain.proofs.Words.{◌≡◌, ◌∷◌, sym, ◌∙◌, left_parenthesis, begins}
 use Rattle.explain.proofs.TokenLemmas.{not-label-listed, right_parenthesis-listing, letters-broken, letters-write}
-use Rattle.explain.proofs.broken_code.listed_break.Goals as goal
+use Rattle.explain.proofs.broken_code.code_break_with_set.Goals as goal
 
 pub unreachable-requires : goal.unreachable-requires
 unreachable-requires c =

@@ -1,5 +1,5 @@
 use Rattle.verify_pool.proofs.Words.{◌≡◌, ℕ, ◌+◌, ◌*◌, ◌-◌, ◌<◌, ◌⊎◌, Some, IsIn, IsStripeRightBefore}
-use Rattle.verify_pool.proofs.pool.least_in_stripe.Given as goal
+use Rattle.verify_pool.proofs.pool.found_in_stripe.Given as goal
 
 abbrev pub invariant-loop-index : goal.invariant-loop-index
 invariant-loop-index g l = record {

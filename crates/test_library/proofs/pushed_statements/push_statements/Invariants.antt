@@ -2,7 +2,7 @@ use Rattle.std.proofs.Common.{◌≡◌, [], ◌∷◌, ◌++◌}
 use Rattle.std.specs.Prelude.{IfSome}
 use Rattle.mm_read.specs.Statements.{Database}
 use Rattle.scope.specs.Active.{bare}
-use Rattle.test_library.proofs.first_example.push_statements.Given as goal
+use Rattle.test_library.proofs.pushed_statements.push_statements.Given as goal
 
 abbrev pub invariant-loop-stmt : goal.invariant-loop-stmt
 invariant-loop-stmt l = record {
