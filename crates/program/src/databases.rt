@@ -1,11 +1,11 @@
 //! Commands about a database: they read and check it, and answer the question.
 use crate::answers::write_answer;
-use crate::unproved_proofs::{allows_unproved, answer_unproved, may_be_unfinished};
 use crate::fault::Fault;
 use crate::named_text::NamedText;
 use crate::refused_questions::print_refused_question;
 use crate::refused_texts::{print_outline_reason, print_refused_text};
 use crate::streams::{print, read_text};
+use crate::unproved_proofs::{allows_unproved, answer_unproved, may_be_unfinished};
 use bytes::Bytes;
 use commands::{DatabaseQuestion, Question};
 use library::{Cause, Entry, Library, MAX_BYTES, Submission, Verdict};

@@ -23,7 +23,6 @@ mod assumed;
 mod command_line;
 mod databases;
 mod desk_answers;
-mod unproved_proofs;
 mod fault;
 mod named_text;
 mod node_answers;
@@ -41,6 +40,7 @@ mod served_weather;
 mod session;
 mod shown;
 mod streams;
+mod unproved_proofs;
 mod why;
 
 pub use command_line::run;

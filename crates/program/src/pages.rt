@@ -1,11 +1,11 @@
 //! The command `pages`: a site of a database.
 use crate::assumed::assume_unproved;
 use crate::databases::apply_text;
-use crate::unproved_proofs::read_legal_database;
 use crate::fault::Fault;
 use crate::named_text::NamedText;
 use crate::refused_texts::print_refused_text;
 use crate::streams::{print, read_text};
+use crate::unproved_proofs::read_legal_database;
 use bytes::Bytes;
 use commands::SiteRequest;
 use folders::Folder;

@@ -16,13 +16,13 @@ mod derivations;
 #[cfg(test)]
 mod failed_allocations;
 #[cfg(test)]
-mod pushed_statements;
-#[cfg(test)]
 mod library_workers;
 #[cfg(test)]
 mod pool_workers;
 #[cfg(test)]
 mod proof_tokens;
+#[cfg(test)]
+mod pushed_statements;
 #[cfg(test)]
 mod rendezvous;
 #[cfg(test)]
