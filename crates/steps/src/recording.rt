@@ -81,8 +81,8 @@ fn cite(
 }
 
 /// Records the effect of the item with a number (`proof_code::ItemParts`): 0 is a mark, the next
-/// numbers cite the labels, of whose statements `positions` has the positions, and the numbers after
-/// those recall the marked results.
+/// numbers cite the labels, and the numbers after those recall the marked results. `positions` has
+/// the position of the statement with each label.
 ///
 /// Errors: an allocation fails, or the expressions exceed `SYMBOLS_LIMIT` symbols.
 pub fn record_item(
