@@ -12,8 +12,8 @@ use mm_read::Stmt;
 use proof_code::Items;
 use std::alloc::{AllocError, Global};
 
-/// Returns the positions of the statements that the proof of the statement at an index cites, in ascending order, each once,
-/// or an empty list if the statement is not a `$p`.
+/// Returns the positions of the statements that the proof of the `$p` at an index, from 0, cites,
+/// in ascending order, each once. Returns an empty list if the statement there is not a `$p`.
 ///
 /// Errors: an allocation fails. Cost: the size of the proof, and that of sorting its citations.
 pub fn cited_at(alloc: Global, library: &Library, index: usize) -> Result<Vec<usize>, AllocError>
@@ -43,7 +43,7 @@ fn cited_positions(alloc: Global, frames: &Frames, items: &Items) -> Result<Vec<
     Ok(cited)
 }
 
-/// Appends the positions that the items with these numbers cite.
+/// Appends the positions that the items with these numbers cite (`proof_code::ItemParts`).
 fn push_positions(
     cited: &mut Vec<usize>,
     positions: &[Option<usize>],
@@ -67,8 +67,9 @@ fn push_if_some(cited: &mut Vec<usize>, position: Option<usize>) -> Result<(), A
     Ok(())
 }
 
-/// Returns the position that the item with a number cites. The number n of a citation is one more than the index of its
-/// label, and so of its position; any other number cites nothing.
+/// Returns the position that the item with a number cites. The number of a citation is one more
+/// than the index of its label, at which `positions` has the position of the statement with that
+/// label. A mark and a recall, which have other numbers, cite nothing.
 fn cited_position(positions: &[Option<usize>], number: u32) -> Option<usize>
     ensures { result ≡ cited_position positions.now number }
 {

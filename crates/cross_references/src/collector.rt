@@ -6,8 +6,9 @@ use crate::citations::sort_dedup;
 use std::alloc::{AllocError, Global};
 use std::marker::Model;
 
-/// The positions collected since the last `begin_round`; the pass begins a round for each statement. Contracts see
-/// `list`, which may repeat positions above the `last` of `new`.
+/// The positions collected since the last `begin_round`; the pass over the statements begins a
+/// round for each of them. Contracts see `list`. It has no position twice that is at most the
+/// argument `last` of `Collector::new`.
 #[derive(Drop)]
 pub struct Collector {
     alloc: Global,
@@ -30,7 +31,7 @@ impl Model for Collector {
 }
 
 impl Collector {
-    /// Returns an empty collector for positions up to `last`.
+    /// Returns an empty collector that adds each position up to `last` only once in a round.
     pub fn new(alloc: Global, last: usize) -> Result<Collector, AllocError>
         ensures { IfOk result (λ collector. collector ≡ []) }
     {
@@ -52,7 +53,8 @@ impl Collector {
         Ok(())
     }
 
-    /// Adds a position. One that is at most the `last` of `new` is added only once in a round.
+    /// Adds a position, unless it was added in this round and is at most the argument `last` of
+    /// `Collector::new`.
     #[tactic(auto, using(crate::proofs::ListLemmas::has_already, crate::proofs::ListLemmas::has_pushed, crate::proofs::ListLemmas::rounds_more))]
     pub fn add(&mut self, position: usize) -> Result<(), AllocError>
         ensures { OnOk result (HasMore (λ p. p ≡ position) self.old self.new) }
@@ -85,14 +87,14 @@ impl Collector {
     }
 }
 
-/// Returns `true` only if the table has this round for a position.
+/// Returns whether `last_rounds` has an entry for a position that is this round.
 fn is_collected(last_rounds: &Vec<usize>, position: usize, round: usize) -> bool
     ensures { result ≡ true → get_or last_rounds.now.items position 0 ≡ round }
 {
     position < last_rounds.len() && last_rounds[position] == round
 }
 
-/// Records the round in which a position was added, if the table has an entry for the position.
+/// Records the round in which a position was added, if `last_rounds` has an entry for the position.
 fn record_round(last_rounds: &mut Vec<usize>, position: usize, round: usize)
     ensures { last_rounds.new.items ≡ slice_set last_rounds.old.items position round }
 {

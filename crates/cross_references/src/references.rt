@@ -23,12 +23,15 @@ pub struct CrossReferences {
     pub cited_by: Vec<Vec<usize>>,
 }
 
-/// Returns the cross references of a library: the positions of the statements whose labels `Library::trace` returns for
-/// each `$p`, and `Library::usage` with `all` false for each statement with a label.
+/// Returns the cross references of a library. `Library::trace` returns the labels of the statements
+/// in `axioms` for a `$p`, and `Library::usage` with `all` false those of the statements in
+/// `cited_by` for a statement with a label.
 ///
-/// Errors: an allocation fails. Cost: the size of the proofs, each read once; for each statement that a proof cites, the
-/// length of the cited statement's list of axioms; sorting the citations of each proof and each list of axioms; two lists
-/// and an entry of a table for each statement. Source: Metamath, 4.2.6 and appendix B.
+/// Errors: an allocation fails. Cost: the size of the proofs, each read once; for each statement
+/// that a proof cites, the length of the cited statement's list of axioms; sorting the citations of
+/// each proof and each list of axioms; two lists and a number in the `Collector` for each
+/// statement.
+/// Source: Metamath, 4.2.6 and appendix B.
 pub fn cross_references(alloc: Global, library: &Library) -> Result<CrossReferences, AllocError>
     ensures { IfOk result (λ found. AreReferences library.now.replica.statements
         (lists_of found.axioms.items) (lists_of found.cited_by.items)) }

@@ -1,5 +1,5 @@
--- Bytes of a database, escaped for an HTML page and for a quoted string of the DOT language.
--- Source: HTML, character references; the DOT language of Graphviz, quoted strings.
+-- Bytes of a database, escaped for an HTML page and for a quoted label in the DOT language.
+-- Source: HTML, character references; the DOT language of Graphviz, quoted strings, `escString`.
 -- The code appends byte by byte; here a text is escaped as a whole.
 use Rattle.std.specs.Prelude.{◌≡◌, ℕ, ◌==◌, Bool, true, false, ◌||◌, if◌then◌else◌, List, [], ◌∷◌, ◌++◌, codes, flat_map}
 
@@ -25,10 +25,10 @@ pub data ReadsAs : List ℕ → List ℕ → Type 0 where
   reads_plain : (b : ℕ) (written text : List ℕ) → is_markup b ≡ false → ReadsAs written text → ReadsAs (b ∷ written) (b ∷ text)
   reads_reference : (b : ℕ) (written text : List ℕ) → is_markup b ≡ true → ReadsAs written text → ReadsAs (reference b ++ written) (b ∷ text)
 
--- a byte as it is written in a quoted string: with a `\` before it if it is `"` or `\`
+-- a byte as it is written in a quoted label: with a `\` before it if it is `"` or `\`
 abbrev pub quoted_byte : ℕ → List ℕ
 quoted_byte b = if b == 34 || b == 92 then 92 ∷ b ∷ [] else b ∷ []
 
--- a text as it is written in a quoted string
+-- a text as it is written in a quoted label
 abbrev pub quoted_text : List ℕ → List ℕ
 quoted_text text = flat_map quoted_byte text

@@ -1,4 +1,4 @@
-//! Escapes bytes for an HTML page, and for a quoted string of the DOT language.
+//! Escapes bytes for an HTML page, and for a quoted label in the DOT language of Graphviz.
 ghost use Rattle.std.specs.Prelude.{◌≡◌, ◌++◌, OnOk};
 ghost use Rattle.markup.specs.Escapes.{html_byte, html_text, ReadsAs, quoted_byte, quoted_text};
 
@@ -35,8 +35,8 @@ fn push_html_byte(page: &mut Vec<u8>, byte: u8) -> Result<(), AllocError>
     }
 }
 
-/// Appends the bytes as the inside of a quoted string of the DOT language: with a `\` before each
-/// `"` and `\`.
+/// Appends the bytes as the inside of a quoted label in the DOT language: with a `\` before each
+/// `"` and `\`. A quoted string that is no label keeps both bytes of `\\`.
 ///
 /// Errors: an allocation fails; the text is then unspecified. Cost: the number of bytes.
 pub fn push_quoted(text: &mut Vec<u8>, bytes: &[u8]) -> Result<(), AllocError>

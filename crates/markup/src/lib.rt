@@ -1,4 +1,4 @@
-//! Escapes text of a database for an HTML page, and for a quoted string of the DOT language.
+//! Escapes text of a database for an HTML page, and for a quoted label in the DOT language.
 //!
 //! Reading order: `escapes`.
 #![tactic(auto)]

@@ -27,7 +27,8 @@ steps_of rows = map (λ r. r.step) rows
 abbrev pub expr_in : List Name → List Row → ℕ → Expr
 expr_in names rows k = decode names (get_or rows k no_row).expr
 
--- the expression of the row is what its citation concludes from the results that it takes
+-- the expression of the row is what its citation concludes from the results that it takes;
+-- `premises` are all mandatory hypotheses with the images put in, those from `$f` too
 pub data Follows (S : Database) (at : ℕ) (names : List Name) (rows : List Row) (row : Row) : Type 0 where
   from_hypothesis : (s : Stmt) → IsHypothesis S at row.step.position s → row.step.taken ≡ [] → decode names row.expr ≡ expr_of s → Follows S at names rows row
   from_assertion : (s : Stmt) (σ : Images) → IsInstance S at row.step.position s σ → map (expr_in names rows) row.step.taken ≡ premises S row.step.position s σ

@@ -24,13 +24,13 @@ pub data IsPlaced (old : List Step) (step : Step) (new : List Step) (n : ℕ) : 
   was_there : slice_get old n ≡ Some step → new ≡ old → IsPlaced old step new n
   is_appended : ((k : ℕ) → slice_get old k ≡ Some step → ⊥) → n ≡ length old → new ≡ old ++ step ∷ [] → IsPlaced old step new n
 
--- the citation of a label makes this step from the results above `below`
+-- the citation of a label makes this step; `below` is the stack without the results that it takes
 pub data IsStepOf (S : Database) (at : ℕ) (label : Name) (stack below : List ℕ) (step : Step) : Type 0 where
   of_hypothesis : (s : Stmt) → Carries S step.position s label → IsHypothesis S at step.position s → step.taken ≡ [] → stack ≡ below → IsStepOf S at label stack below step
   of_assertion : (s : Stmt) → Carries S step.position s label → IsCitable S at step.position s → length step.taken ≡ length (hypotheses (before S step.position) s)
       → stack ≡ below ++ step.taken → IsStepOf S at label stack below step
 
--- the result marked as number k, from 1
+-- n is the place of the step of the result marked as number k, from 1
 abbrev pub IsMarked : List ℕ → ℕ → ℕ → Type 0
 IsMarked saved zero n = ⊥
 IsMarked saved (suc k) n = slice_get saved k ≡ Some n

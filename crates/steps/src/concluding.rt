@@ -12,10 +12,12 @@ use std::alloc::AllocError;
 use subst::{Buffer, ImageRanges, RemainingSymbols, SYMBOLS_LIMIT, SymbolRange, range_between};
 use verify::read_off;
 
-/// Returns a shorter expression in which substitution gives the same result: the symbols whose images are not empty, if
-/// `symbol_places` is given and they are at most a quarter of the expression. Otherwise returns the expression.
+/// Returns the symbols of the expression whose images are not empty, in order, if `symbol_places`
+/// is given and these symbols are at most a quarter of the expression. Otherwise returns the
+/// expression. Substitution gives the same result for both.
 ///
-/// Errors: an allocation fails. Cost: the distinct symbols of the expression, and the symbols that are returned.
+/// Errors: an allocation fails. Cost: the distinct symbols of the expression, and the symbols that
+/// are returned.
 fn shortened<'a>(
     images: &ImageRanges,
     expr: &'a [u32],
@@ -35,12 +37,12 @@ fn shortened<'a>(
 }
 
 /// Appends the conclusion of the assertion to the buffer, and returns its range. `ranges` are those
-/// of the results that the citation takes. `symbol_places` has the places of the symbols in the
-/// assertion's expression.
+/// of the results that the citation takes. `symbol_places` says where each symbol occurs in the
+/// assertion's expression; it has no places of steps.
 ///
-/// Errors: an allocation fails, or the expressions exceed `SYMBOLS_LIMIT` symbols. Cost: a step for
-/// each result, the symbols written, and the symbols of the expression, or only its distinct ones
-/// if `symbol_places` is given.
+/// Errors: an allocation fails, or the expressions exceed `SYMBOLS_LIMIT` symbols. Cost: a constant
+/// for each result, the symbols written, and the symbols of the expression, or only its distinct
+/// ones if `symbol_places` is given and few symbols have images that are not empty.
 pub fn conclude(
     symbols: &mut Buffer,
     images: &mut ImageRanges,

@@ -150,11 +150,12 @@ fn renumbered(alloc: Global, list: &[usize], numbers: &[usize]) -> Result<Vec<us
     Ok(taken)
 }
 
-/// Returns the essential steps of a table of the `$p` at a position: the last, and each step that a
-/// kept step takes for a `$e`. They are renumbered, and each row takes only kept steps.
+/// Returns the essential steps of a table of the `$p` at position `at`: the last, and each step
+/// that a kept step takes for a `$e`. They are renumbered, and each takes only the steps that it
+/// took for a `$e`.
 ///
-/// Errors: an allocation fails. Cost: the size of the table; the long lists of a cited assertion
-/// are made twice.
+/// Errors: an allocation fails. Cost: the size of the table. If `Frames::whole_view` returns `None`
+/// for a cited assertion, its mandatory hypotheses are listed twice.
 /// Source: Metamath, 4.2.6.
 pub fn essential_table(
     alloc: Global,

@@ -1,9 +1,11 @@
-//! The steps of a proof as a table without duplicates, each step with its expression. The expression of the last step is that
-//! of the theorem.
+//! The steps of a proof as a table without duplicates, each step with its expression. The
+//! expression of the last step is that of the theorem.
 //!
-//! `proof_table` returns the steps of a right proof in the order in which its items make them, each with the expression that
-//! its citation concludes. `essential_table` returns the essential steps of such a table: the last step, and those that an
-//! essential step takes for a `$e`. A place is the index of a step in the table, from 0.
+//! `proof_table` returns the steps of a right proof in the order in which its items make them, each
+//! with the expression that its citation concludes. An item is a citation, a mark (`Z`) or a recall
+//! of a marked result; only citations make steps. `essential_table` returns the essential steps of
+//! such a table: the last step, and those that an essential step takes for a `$e`. A place is the
+//! index of a step in the table, from 0.
 //!
 //! Reading order: `steps_table` (the table, and `proof_table`), `recording` (one item), `table_draft` (one citation),
 //! `concluding` (one conclusion), `long_lists` (long lists of hypotheses), `step_places` (finds equal steps), `essential` (the

@@ -96,14 +96,15 @@ pub struct LongLists {
     alloc: Global,
     /// Buffers for the frame of the assertion that is being listed.
     buffers: FrameBuffers,
-    /// The index of the list of the assertion at a position. It is only a hint: `find` checks the list at that index.
+    /// The index of the list of each assertion, by its position. It is only a hint: `find` checks
+    /// the list at that index.
     indexes: BTreeMap<usize, usize>,
     /// The lists, in the order in which they were made.
     pub lists: Vec<HypothesisList>,
 }
 
 impl LongLists {
-    /// Returns a table with no lists. Does not allocate.
+    /// Returns a `LongLists` without lists. Does not allocate.
     pub fn new(alloc: Global) -> LongLists
         ensures { result.lists.items ≡ [] }
     {

@@ -14,7 +14,7 @@ use crate::table_draft::{TableDraft, cite_assertion, cite_hypothesis};
 use frame::{Frames, Meaning};
 use std::alloc::{AllocError, Global};
 
-/// Marks the last result.
+/// Marks the last result: saves its place.
 ///
 /// Errors: an allocation fails.
 fn mark(frames: &Frames, at: usize, draft: &mut TableDraft) -> Result<(), AllocError>
@@ -47,6 +47,8 @@ fn recall(
 }
 
 /// Cites the statement at a position: an active hypothesis, or an earlier assertion.
+///
+/// Errors: an allocation fails, or the expressions exceed `SYMBOLS_LIMIT` symbols.
 fn cite(
     alloc: Global,
     frames: &Frames,
@@ -79,9 +81,10 @@ fn cite(
 }
 
 /// Records the effect of the item with a number (`proof_code::ItemParts`): 0 is a mark, the next
-/// numbers are the labels, whose `positions` are given, and those after them the marked results.
+/// numbers cite the labels, and the numbers after those recall the marked results. `positions` has
+/// the position of the statement with each label.
 ///
-/// Errors: an allocation fails.
+/// Errors: an allocation fails, or the expressions exceed `SYMBOLS_LIMIT` symbols.
 pub fn record_item(
     alloc: Global,
     frames: &Frames,

@@ -106,10 +106,12 @@ impl ProofTable {
     }
 }
 
-/// Returns the steps of the items of a right proof of the `$p` at that position, with the expression of each.
+/// Returns the steps of the items of a right proof of the `$p` at position `at`, each with its
+/// expression.
 ///
-/// Errors: an allocation fails. Cost: that of the proof, and of finding each citation among the steps. There is no limit on
-/// the number of steps. Long lists of a cited assertion are made once.
+/// Errors: an allocation fails. Cost: that of the proof, and of finding each citation among the
+/// steps. There is no limit on the number of steps. If `Frames::whole_view` returns `None` for a
+/// cited assertion, its mandatory hypotheses are listed once.
 /// Source: Metamath, 4.2.6 and appendix B.
 pub fn proof_table(
     alloc: Global,

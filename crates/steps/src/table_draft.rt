@@ -42,8 +42,7 @@ pub struct TableDraft {
     pub step_places: BTreeMap<Vec<usize>, usize>,
     /// A buffer for the images of a citation.
     pub images: ImageRanges,
-    /// A buffer for the symbols that are left of a long expression without those whose images are
-    /// empty.
+    /// A buffer for a long expression without the symbols whose images are empty.
     pub remaining: RemainingSymbols,
     /// A buffer for the ranges of the results that a citation takes.
     pub ranges: Vec<SymbolRange>,

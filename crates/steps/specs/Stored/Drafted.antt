@@ -42,7 +42,8 @@ AreInBuffer n (p ∷ ps) = (p.range.start ≤ p.range.end) × (p.range.end ≤ n
 abbrev pub progress_of : TableDraft → Progress
 progress_of d = progress (steps_of (rows_of d)) d.stack.items d.saved.items
 
--- the rows are right, the map finds them, and the stack and the marked results are places of rows
+-- the rows are those of a table (`AreRows`), the map finds their steps, and the stack and the
+-- marked results are places of rows
 pub record IsDraft (S : Database) (at : ℕ) (names : List Name) (d : TableDraft) : Type 0 where
   pub inside : AreInBuffer (length d.symbols) d.stored.items
   pub rows : AreRows S at names (rows_of d)
@@ -50,12 +51,14 @@ pub record IsDraft (S : Database) (at : ℕ) (names : List Name) (d : TableDraft
   pub stack_below : AreBelow (length d.stored.items) d.stack.items
   pub saved_below : AreBelow (length d.stored.items) d.saved.items
 
--- the results of a run are the expressions of the rows
+-- the results of a run, which goes over the items with a stack of expressions (`Machine` of
+-- `verify`), are the expressions of the rows
 pub record AgreesWithRun (names : List Name) (d : TableDraft) (st : State) : Type 0 where
   pub stack : map (expr_in names (rows_of d)) d.stack.items ≡ st.stack
   pub saved : map (expr_in names (rows_of d)) d.saved.items ≡ st.saved
 
--- a run does the item
+-- the item can be run: in some state of a run that agrees with the draft it leads to a next state
+-- (`Steps` of `verify`, which are no steps of a table)
 abbrev pub RunDoes : Database → ℕ → List Name → TableDraft → Item → Type 0
 RunDoes S at names old item = (st : State) × (next : State) × AgreesWithRun names old st × Steps S at st item next
 
@@ -89,7 +92,7 @@ pub record AddsStep (old new : TableDraft) (step : StoredStep) : Type 0 where
   pub own : place_of new.step_places (step.position ∷ step.taken.items) ≡ Some (length old.stored.items)
   pub others : (x : List ℕ) → x ≢ step.position ∷ step.taken.items → place_of new.step_places x ≡ place_of old.step_places x
 
--- an equal step was there; its result replaces those above `below`
+-- an equal step was there; the stack is now `below` with its result on top
 pub record FindsStep (old new : TableDraft) (step : Step) (below : List ℕ) : Type 0 where
   pub place : ℕ
   pub found : place_of old.step_places (key_of step) ≡ Some place
@@ -99,7 +102,8 @@ pub record FindsStep (old new : TableDraft) (step : Step) (below : List ℕ) : T
   pub stored : new.stored.items ≡ old.stored.items
   pub step_places : new.step_places ≡ old.step_places
 
--- no equal step was there; the step is appended with its expression, and its result replaces those above `below`
+-- no equal step was there; the step is appended with its expression e, and the stack is now `below`
+-- with its result on top
 pub record MakesStep (old new : TableDraft) (step : Step) (below e : List ℕ) : Type 0 where
   pub made : StoredStep
   pub is_position : made.position ≡ step.position
@@ -114,12 +118,13 @@ pub record MakesStep (old new : TableDraft) (step : Step) (below e : List ℕ) :
   pub own : place_of new.step_places (key_of step) ≡ Some (length old.stored.items)
   pub others : (x : List ℕ) → x ≢ key_of step → place_of new.step_places x ≡ place_of old.step_places x
 
--- a hypothesis takes no results
+-- the citation of a hypothesis whose expression is e: it takes no results
 abbrev pub CitesHypothesis : TableDraft → TableDraft → ℕ → List ℕ → Type 0
 CitesHypothesis old new position e =
     let step : Step = record { position = position; taken = [] } in FindsStep old new step old.stack.items ⊎ MakesStep old new step old.stack.items e
 
--- an assertion takes as many results as it has mandatory hypotheses, which determine the images of its variables
+-- the citation of an assertion: it takes as many results as the assertion has mandatory hypotheses;
+-- these results determine the images of its variables
 abbrev pub CitesAssertion : TableDraft → TableDraft → ℕ → AssertionView → Type 0
 CitesAssertion old new position cited =
     let n = length cited.hypotheses in

@@ -28,7 +28,8 @@ pub record IsCopyOf (position : ℕ) (c : AssertionView) (l : ListedHypotheses) 
   pub typecodes_same : l.typecodes ≡ c.typecodes.now
   pub hypotheses_same : l.numbered_hypotheses ≡ c.hypotheses
 
--- the list has the hypotheses of the assertion s at its position, whose groups of disjoint variables have symbol numbers
+-- the list has the hypotheses of the assertion s at its position; the symbols of the assertion's
+-- groups of disjoint variables have numbers
 pub record IsListOf (S : Database) (names : List Name) (l : ListedHypotheses) (s : Stmt) : Type 0 where
   pub hypotheses_of : AreNumberedHypotheses S names (hypotheses (before S l.position) s) l.typecodes l.numbered_hypotheses
   pub groups : List (List ℕ)

@@ -34,7 +34,8 @@ pub record MarksMore (old new : List Bool) (ks : List ℕ) : Type 0 where
   pub count : length new ≡ length old
   pub each : (k : ℕ) → HasMark new k ↔ (HasMark old k ⊎ IsIn k ks)
 
--- the steps from `from` on were visited: each step that a marked one of them takes for a `$e` is marked
+-- the steps from `from` on were visited: each step that a marked one of them takes for a `$e` is
+-- marked, and so is the last; only essential steps are marked
 pub record AreMarkedFrom (S : Database) (steps : List Step) (from : ℕ) (marks : List Bool) : Type 0 where
   pub count : length marks ≡ length steps
   pub sound : (k : ℕ) → HasMark marks k → IsEssential S steps k
