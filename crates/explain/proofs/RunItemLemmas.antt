@@ -1,6 +1,6 @@
 -- The fault of an item that cannot be done.
 use Rattle.explain.proofs.Words.{◌≡◌, ℕ, zero, suc, ◌+◌, ◌-◌, ◌<◌, ◌≤◌, cond, List, [], ◌∷◌, ◌++◌, length, take, get_or, arith, refl, sym, ◌∙◌, ap, subst, Some, None, Option, slice_get, IfOk, MatchOption, Result, Ok, Err, add-one, Vec, Name, Stmt, Database, Expr, decode, AreDistinct, Carries, IsPosition, ArePositions, Item, Cite, Recall, Mark, item_of, items_of, ItemFault, UnknownLabel, Inactive, NotEarlier, TooFewResults, OtherTypecode, OtherExpression, NotDisjoint, TooManySymbols, NoMarkedResult, IsCitationFault, IsLabelCitationFault, IsItemFault, CitationGives, of_hypothesis, of_assertion, take_more, slice_get-map, SYMBOLS_LIMIT, lt-ltb, le-ltb, stmt_at, same_Some}
-use Rattle.verify.specs.Machine.{State, Cites, of_hypothesis as cites_hypothesis, of_assertion as cites_assertion, Steps, with_result, with_mark}
+use Rattle.verify.specs.Machine.{State, Cites, of_hypothesis as cites_hypothesis, of_assertion as cites_assertion, RunsItem, with_result, with_mark}
 use Rattle.verify.proofs.Words.{take_all, length-append, length-map, option_map, slice_get-get_or, slice_get_within}
 
 -- ---- the positions of labels
@@ -39,7 +39,7 @@ cites S at i s label stack below e carries (of_assertion σ fits whole same) = c
 
 module _ (S : Database) (at : ℕ) (h : State) (light : h.weight ≤ SYMBOLS_LIMIT) where
   -- if a mark cannot be made, the stack is empty
-  pub mark_fails : ((next : State) → Steps S at h Mark next → SYMBOLS_LIMIT < next.weight) → h.stack ≡ []
+  pub mark_fails : ((next : State) → RunsItem S at h Mark next → SYMBOLS_LIMIT < next.weight) → h.stack ≡ []
   mark_fails stuck = by h.stack refl
     where
       by : (stack : List Expr) → h.stack ≡ stack → h.stack ≡ []
@@ -51,14 +51,14 @@ module _ (S : Database) (at : ℕ) (h : State) (light : h.weight ≤ SYMBOLS_LIM
           absurd (let over = stuck (with_mark h (get_or (x ∷ xs) n [])) (take n (x ∷ xs), get_or (x ∷ xs) n [], split, refl) in omega (arith, over, light))
 
   -- with a recall of a saved result that has no step within the limit, the lengths of all results exceed it
-  pub recall_heavy : (k : ℕ) → ((next : State) → Steps S at h (Recall (suc k)) next → SYMBOLS_LIMIT < next.weight) → k < length h.saved
+  pub recall_heavy : (k : ℕ) → ((next : State) → RunsItem S at h (Recall (suc k)) next → SYMBOLS_LIMIT < next.weight) → k < length h.saved
       → (e : Expr) × (slice_get h.saved k ≡ Some e) × (SYMBOLS_LIMIT < h.weight + length e)
   recall_heavy k stuck less =
       let there = slice_get-get_or h.saved k [] less in
       (get_or h.saved k [], there, stuck (with_result h h.stack (get_or h.saved k [])) (get_or h.saved k [], there, refl))
 
   -- with a citation that has no step within the limit, the lengths of all results exceed it, if the statement gives a result
-  pub cite_stuck : (label : Name) (i : ℕ) (r : Stmt) → Carries S i r label → ((next : State) → Steps S at h (Cite label) next → SYMBOLS_LIMIT < next.weight)
+  pub cite_stuck : (label : Name) (i : ℕ) (r : Stmt) → Carries S i r label → ((next : State) → RunsItem S at h (Cite label) next → SYMBOLS_LIMIT < next.weight)
       → (s : Stmt) (below : List Expr) (e : Expr) → stmt_at S i ≡ Some s → CitationGives S at i s h.stack below e → SYMBOLS_LIMIT < h.weight + length e
   cite_stuck label i r carries stuck s below e stands gives =
       let same : r ≡ s = same_Some r s (sym carries.stands ∙ stands) in

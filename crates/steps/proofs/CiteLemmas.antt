@@ -1,5 +1,5 @@
 -- The step that a citation adds to a table, if a run cites the same.
-use Rattle.steps.proofs.Words.{◌≡◌, ℕ, zero, suc, ◌-◌, ◌<◌, ◌≤◌, List, [], ◌∷◌, ◌++◌, length, map, drop, get_or, slice_get, Some, refl, sym, ◌∙◌, ap, subst, arith, inl, inr, length-map, map-append, get_or_from_slice_get, Name, Stmt, Expr, Database, stmt_at, before, expr_of, is_assertion, decode, Float, AssertionView, AreBelow, AllBelow, IsWellTyped, IsViewOf, HasAssertion, hypotheses, Carries, IsHypothesis, IsInstance, premises, HasLegalProperties, Cite, below-drop, IsTyped, AreRead, AreDifferent, AreNamed, Results, State, Cites, Steps, with_result, below, top, required-lengths, required-different, Meets, meets-step, read-over, cited-plain, append_cut, length-premises, not_both, apply-below, halves, length-top, map-drop, Row, no_row, expr_in, Follows, from_hypothesis, from_assertion, AreRows, row_of, rows_of, codes_in, progress_of, IsDraft, AgreesWithRun, CitesHypothesis, CitesAssertion, TableDraft, some-same, below-take}
+use Rattle.steps.proofs.Words.{◌≡◌, ℕ, zero, suc, ◌-◌, ◌<◌, ◌≤◌, List, [], ◌∷◌, ◌++◌, length, map, drop, get_or, slice_get, Some, refl, sym, ◌∙◌, ap, subst, arith, inl, inr, length-map, map-append, get_or_from_slice_get, Name, Stmt, Expr, Database, stmt_at, before, expr_of, is_assertion, decode, Float, AssertionView, AreBelow, AllBelow, IsWellTyped, IsViewOf, HasAssertion, hypotheses, Carries, IsHypothesis, IsInstance, premises, HasLegalProperties, Cite, below-drop, IsTyped, AreRead, AreDifferent, AreNamed, Results, State, Cites, RunsItem, with_result, below, top, required-lengths, required-different, Meets, meets-step, read-over, cited-plain, append_cut, length-premises, not_both, apply-below, halves, length-top, map-drop, Row, no_row, expr_in, Follows, from_hypothesis, from_assertion, AreRows, row_of, rows_of, codes_in, progress_of, IsDraft, AgreesWithRun, CitesHypothesis, CitesAssertion, TableDraft, some-same, below-take}
 use Rattle.frame.specs.Substitution.{Images, CodeImages, apply as applied, code_apply}
 use Rattle.verify.specs.Machine.{of_hypothesis, of_assertion}
 use Rattle.steps.specs.StepTable.{Step, was_there, of_hypothesis as makes_hypothesis, of_assertion as makes_assertion, RecordsItem}
@@ -65,12 +65,12 @@ module _ (S : Database) (at : ℕ) (names : List Name) (legal : HasLegalProperti
     pub hypothesis-draft : (new : TableDraft) → CitesHypothesis d new i codes → IsDraft S at names new
     hypothesis-draft = hypothesis-draft'
 
-    pub hypothesis-done : (new : TableDraft) → CitesHypothesis d new i codes → (next : State) → Steps S at st (Cite label) next → IsRecorded S at names d label new next
+    pub hypothesis-done : (new : TableDraft) → CitesHypothesis d new i codes → (next : State) → RunsItem S at st (Cite label) next → IsRecorded S at names d label new next
     hypothesis-done new gives next run = subst (IsRecorded S at names d label new) (sym run.3) (hypothesis-tied' new gives run.0 run.1 (run-hypothesis run.0 run.1 run.2))
 
   -- ---- an assertion
 
-  module _ (a : ℕ) (s : Stmt) (c : AssertionView) (carries : Carries S a s label) (has : HasAssertion S a s) (earlier : a < at) (cited : IsViewOf S names a s c) (next : State) (run : Steps S at st (Cite label) next) where
+  module _ (a : ℕ) (s : Stmt) (c : AssertionView) (carries : Carries S a s label) (has : HasAssertion S a s) (earlier : a < at) (cited : IsViewOf S names a s c) (next : State) (run : RunsItem S at st (Cite label) next) where
     abbrev n : ℕ
     n = length c.hypotheses
 

@@ -1,5 +1,5 @@
 -- The effect of an item on the table that is built.
-use Rattle.steps.proofs.Words.{◌≡◌, ℕ, zero, suc, ◌-◌, ◌<◌, List, [], ◌∷◌, ◌++◌, length, map, get_or, slice_get, Option, Some, None, refl, sym, ◌∙◌, ap, subst, arith, length-append, length-map, map_push, slice_get-get_or, Name, Stmt, Expr, Database, stmt_at, AreBelow, Carries, IsHypothesis, IsMeaning, IsPosition, ArePositions, HasLegalProperties, Nothing, Recall, Mark, State, Cites, with_result, with_mark, append_cut, get-map, Progress, steps_of, expr_in, AreRows, row_of, rows_of, AreInBuffer, AreStepPlaces, IsDraft, AgreesWithRun, RunDoes, IsItemRecorded, TableDraft, below-push, below-at}
+use Rattle.steps.proofs.Words.{◌≡◌, ℕ, zero, suc, ◌-◌, ◌<◌, List, [], ◌∷◌, ◌++◌, length, map, get_or, slice_get, Option, Some, None, refl, sym, ◌∙◌, ap, subst, arith, length-append, length-map, map_push, slice_get-get_or, Name, Stmt, Expr, Database, stmt_at, AreBelow, Carries, IsHypothesis, IsMeaning, IsPosition, ArePositions, HasLegalProperties, Nothing, Recall, Mark, State, Cites, with_result, with_mark, append_cut, get-map, Progress, steps_of, expr_in, AreRows, row_of, rows_of, AreInBuffer, AreStepPlaces, IsDraft, AgreesWithRun, CanRun, IsItemRecorded, TableDraft, below-push, below-at}
 use Rattle.verify.specs.Machine.{of_hypothesis, of_assertion}
 
 -- a list that is not empty, split before its last element
@@ -17,7 +17,7 @@ module _ (S : Database) (at : ℕ) (names : List Name) (d : TableDraft) (is : Is
 
   -- ---- a mark
 
-  pub mark-some : RunDoes S at names d Mark → 0 < length d.stack.items
+  pub mark-some : CanRun S at names d Mark → 0 < length d.stack.items
   mark-some (st, next, tied, (b, e, whole, goes)) =
       let l = ap length (tied.stack ∙ whole) in
       let m = length-map d.stack.items f in
@@ -68,7 +68,7 @@ module _ (S : Database) (at : ℕ) (names : List Name) (d : TableDraft) (is : Is
 
   -- ---- a recall
 
-  pub recall-there : (k : ℕ) → RunDoes S at names d (Recall (suc k)) → k < length d.saved.items
+  pub recall-there : (k : ℕ) → CanRun S at names d (Recall (suc k)) → k < length d.saved.items
   recall-there k (st, next, tied, (e, saved, goes)) =
       let l = low st.saved k saved in
       let m = ap length tied.saved in

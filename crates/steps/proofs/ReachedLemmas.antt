@@ -1,5 +1,5 @@
 -- The items recorded so far; a run takes the others.
-use Rattle.steps.proofs.Words.{◌≡◌, ℕ, zero, suc, ◌-◌, ◌+◌, ◌<◌, ◌≤◌, List, [], ◌∷◌, length, map, take, drop, get_or, Some, refl, sym, ◌∙◌, ap, subst, arith, length-map, drop_all, Name, Stmt, Expr, Database, stmt_at, expr_of, HasLegalProperties, Item, item_of, items_of, State, start, Steps, Runs, IsRight, conclude_same, spellings_run, items-more, all-taken, progress, RecordsItems, AreSteps, steps_of, expr_in, row_of, rows_of, progress_of, AgreesWithRun, RunDoes, IsItemRecorded, TableDraft, some-same}
+use Rattle.steps.proofs.Words.{◌≡◌, ℕ, zero, suc, ◌-◌, ◌+◌, ◌<◌, ◌≤◌, List, [], ◌∷◌, length, map, take, drop, get_or, Some, refl, sym, ◌∙◌, ap, subst, arith, length-map, drop_all, Name, Stmt, Expr, Database, stmt_at, expr_of, HasLegalProperties, Item, item_of, items_of, State, start, RunsItem, Runs, IsRight, conclude_same, spellings_run, items-more, all-taken, progress, RecordsItems, AreSteps, steps_of, expr_in, row_of, rows_of, progress_of, AgreesWithRun, CanRun, IsItemRecorded, TableDraft, some-same}
 use Rattle.steps.proofs.SoundLemmas.{records-sound, records-snoc, nothing-sound, last_place-last}
 
 drop-more : (labels : List Name) (xs : List ℕ) (i : ℕ) → i < length xs → map (item_of labels) (drop i xs) ≡ item_of labels (get_or xs i 0) ∷ map (item_of labels) (drop (i + 1) xs)
@@ -35,10 +35,10 @@ module _ (S : Database) (at : ℕ) (names : List Name) where
       }
 
   -- the run does the next item, and then the others
-  pub reached-run : (labels : List Name) (numbers : List ℕ) (i : ℕ) (d : TableDraft) → i < length numbers → (r : Reached labels numbers i d) → (next : State) × Steps S at r.state (item_of labels (get_or numbers i 0)) next × Runs S at next (map (item_of labels) (drop (i + 1) numbers)) r.end
+  pub reached-run : (labels : List Name) (numbers : List ℕ) (i : ℕ) (d : TableDraft) → i < length numbers → (r : Reached labels numbers i d) → (next : State) × RunsItem S at r.state (item_of labels (get_or numbers i 0)) next × Runs S at next (map (item_of labels) (drop (i + 1) numbers)) r.end
   reached-run labels numbers i d h r = subst (λ is. Runs S at r.state is r.end) (drop-more labels numbers i h) r.rest
 
-  pub reached-can : (labels : List Name) (numbers : List ℕ) (i : ℕ) (d : TableDraft) → i < length numbers → Reached labels numbers i d → RunDoes S at names d (item_of labels (get_or numbers i 0))
+  pub reached-can : (labels : List Name) (numbers : List ℕ) (i : ℕ) (d : TableDraft) → i < length numbers → Reached labels numbers i d → CanRun S at names d (item_of labels (get_or numbers i 0))
   reached-can labels numbers i d h r = let x = reached-run labels numbers i d h r in (r.state, x.0, r.tied, x.1)
 
   pub reached-next : (labels : List Name) (numbers : List ℕ) (i : ℕ) (d new : TableDraft) → i < length numbers → Reached labels numbers i d → IsItemRecorded S at names d (item_of labels (get_or numbers i 0)) new → Reached labels numbers (i + 1) new

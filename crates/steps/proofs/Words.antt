@@ -48,7 +48,7 @@ pub use Rattle.std.specs.declared.vec.Vec.{Vec}
 pub use Rattle.steps.specs.Essential.{AreEssential, IsEssential, IsIn, IsRenumbered, premise_places, taken_for_premises, is_last, is_premise, is_taken, mandatory_hypotheses}
 pub use Rattle.steps.specs.Rows.{AreRows, Follows, IsRow, Row, expr_in, from_assertion, from_hypothesis, no_row, row, steps_of}
 pub use Rattle.steps.specs.StepTable.{AreSteps, IsPlaced, IsStepOf, Progress, RecordsItem, RecordsItems, Step, is_appended, of_assertion, of_hypothesis, progress, was_there}
-pub use Rattle.steps.specs.Stored.Drafted.{AreInBuffer, AreStepPlaces, RunDoes, FindsStep, CitesAssertion, CitesHypothesis, IsItemRecorded, IsDraft, AgreesWithRun, codes_in, key_of, range_in, place_of, progress_of, row_of, rows_of}
+pub use Rattle.steps.specs.Stored.Drafted.{AreInBuffer, AreStepPlaces, CanRun, FindsStep, CitesAssertion, CitesHypothesis, IsItemRecorded, IsDraft, AgreesWithRun, codes_in, key_of, range_in, place_of, progress_of, row_of, rows_of}
 pub use Rattle.steps.specs.Stored.LongLists.{AreListsOfAssertions, IsListOf, IsCopyOf, IsViewUpToGroups, IsListAt, ListedHypotheses, with_groups}
 pub use Rattle.steps.specs.Stored.Marked.{AreMarkedFrom, AreMarks, AreNumbers, HasMark, MarksMore, kept_row, mark_each, mark_last, marked_before, number_of, taken_for_essentials}
 pub use Rattle.steps.specs.Unfolded.{citation_over, has_assertion, last_unfolded, unfolded, unfolded_after}
@@ -80,7 +80,7 @@ pub use Rattle.verify.proofs.Words.{same_Some}
 pub use Rattle.verify.specs.Derivations.{Derivation, apply, from_list, hyp}
 pub use Rattle.verify.specs.HypothesisResults.{AreDifferent, AreRead, IsTyped, Reads}
 pub use Rattle.verify.specs.Growth.{Grows, GrowsBy, Trees, a_hypothesis, an_assertion, trees}
-pub use Rattle.verify.specs.Machine.{Cites, Results, Runs, State, Steps, start, with_mark, with_result}
+pub use Rattle.verify.specs.Machine.{Cites, Results, Runs, State, RunsItem, start, with_mark, with_result}
 pub use Rattle.verify.specs.Plan.{pick}
 pub use Rattle.verify.specs.ReadPlaces.{ReadsAll}
 pub use Rattle.verify.specs.ResultPlaces.{below, top}

@@ -24,7 +24,7 @@ pub use Rattle.subst.specs.SymbolRanges.{symbols_in}
 pub use Rattle.subst.specs.declared.symbol_range.SymbolRange.{SymbolRange}
 pub use Rattle.verify.specs.Derivations.{Derivation, apply, from_list, hyp}
 pub use Rattle.verify.specs.HypothesisResults.{AreRead}
-pub use Rattle.verify.specs.Machine.{State, Steps}
+pub use Rattle.verify.specs.Machine.{State, RunsItem}
 pub use Rattle.verify.specs.Plan.{pick}
 pub use Rattle.verify.specs.ResultPlaces.{below, top}
 pub use Rattle.verify.specs.Spells.{IsCitable}

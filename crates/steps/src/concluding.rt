@@ -52,7 +52,7 @@ pub fn conclude(
     ranges: &[SymbolRange],
 ) -> Result<SymbolRange, AllocError>
     requires symbol_places { IfSome symbol_places (λ places. ArePlacesOf cited.now.conclusion.now places.now) }
-    requires same { length ranges.now ≡ length cited.now.hypotheses }
+    requires count { length ranges.now ≡ length cited.now.hypotheses }
     requires typecodes { length cited.now.typecodes.now ≡ length cited.now.hypotheses }
     requires within { AreWithin (length symbols.old) ranges.now }
     requires different { AreDifferent cited.now.hypotheses }

@@ -6,7 +6,7 @@ ghost use Rattle.frame.specs.Citations.{Carries};
 ghost use Rattle.frame.specs.AtPosition.{ArePositions, HasLegalProperties};
 ghost use Rattle.proof_code.specs.declared.item.Item.TheVariants.{Cite, Recall, Mark};
 ghost use Rattle.proof_code.specs.ItemNumbers.{item_of};
-ghost use Rattle.steps.specs.Stored.Drafted.{IsDraft, RunDoes, IsItemRecorded};
+ghost use Rattle.steps.specs.Stored.Drafted.{IsDraft, CanRun, IsItemRecorded};
 ghost use Rattle.steps.specs.Stored.LongLists.{AreListsOfAssertions};
 
 use crate::long_lists::LongLists;
@@ -19,7 +19,7 @@ use std::alloc::{AllocError, Global};
 /// Errors: an allocation fails.
 fn mark(frames: &Frames, at: usize, draft: &mut TableDraft) -> Result<(), AllocError>
     requires draft { IsDraft frames.now.statements at frames.now.names draft.old }
-    requires can { RunDoes frames.now.statements at frames.now.names draft.old Mark }
+    requires can { CanRun frames.now.statements at frames.now.names draft.old Mark }
     ensures draft { OnOk result (IsDraft frames.now.statements at frames.now.names draft.new) }
     ensures done { OnOk result (IsItemRecorded frames.now.statements at frames.now.names draft.old Mark draft.new) }
 {
@@ -37,7 +37,7 @@ fn recall(
     draft: &mut TableDraft,
 ) -> Result<(), AllocError>
     requires draft { IsDraft frames.now.statements at frames.now.names draft.old }
-    requires can { RunDoes frames.now.statements at frames.now.names draft.old (Recall (suc index)) }
+    requires can { CanRun frames.now.statements at frames.now.names draft.old (Recall (suc index)) }
     ensures draft { OnOk result (IsDraft frames.now.statements at frames.now.names draft.new) }
     ensures done { OnOk result (IsItemRecorded frames.now.statements at frames.now.names draft.old (Recall (suc index)) draft.new) }
 {
@@ -61,7 +61,7 @@ fn cite(
     requires place { (1 ≤ at) × (at ≤ length frames.now.statements) }
     requires draft { IsDraft frames.now.statements at frames.now.names draft.old }
     requires can { (label : Name) × (s : Statement) × Carries frames.now.statements position s label
-        × RunDoes frames.now.statements at frames.now.names draft.old (Cite label) }
+        × CanRun frames.now.statements at frames.now.names draft.old (Cite label) }
     requires lists { AreListsOfAssertions frames.now.statements frames.now.names lists.old.lists.items }
     ensures draft { OnOk result (IsDraft frames.now.statements at frames.now.names draft.new) }
     ensures done { OnOk result ((label : Name) (s : Statement) → Carries frames.now.statements position s label
@@ -98,7 +98,7 @@ pub fn record_item(
     requires place { (1 ≤ at) × (at ≤ length frames.now.statements) }
     requires draft { IsDraft frames.now.statements at frames.now.names draft.old }
     requires can { (labels : List Name) × ArePositions frames.now.statements labels positions.now
-        × RunDoes frames.now.statements at frames.now.names draft.old (item_of labels number) }
+        × CanRun frames.now.statements at frames.now.names draft.old (item_of labels number) }
     requires lists { AreListsOfAssertions frames.now.statements frames.now.names lists.old.lists.items }
     ensures draft { OnOk result (IsDraft frames.now.statements at frames.now.names draft.new) }
     ensures done { OnOk result ((labels : List Name) → ArePositions frames.now.statements labels positions.now

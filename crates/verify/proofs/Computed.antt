@@ -1,5 +1,5 @@
 -- Proofs found by computation: a function runs over the items and returns a proof for each step.
-use Rattle.verify.proofs.Words.{◌≡◌, ℕ, zero, suc, ◌-◌, ◌<◌, ◌≤◌, Bool, true, false, nat_lt, nat_le, List, [], ◌∷◌, ◌++◌, length, Option, Some, None, slice_get, refl, is_some, list_all, sym, ◌∙◌, ap, true≢false, bytes_eq-Decides, ltb-true, leb-true, Name, name_eq, Stmt, Expr, Database, stmt_at, before, is_active, is_variable, is_assertion, label_of, expr_of, hypotheses, mandatory_groups, Images, applied, are_groups_disjoint, Item, Cite, Recall, Mark, is_hypothesis_kind, IsInstance, premises, Carries, State, start, of_hypothesis, of_assertion, with_result, with_mark, Steps, Runs, below, top, IsRight, weight_limit}
+use Rattle.verify.proofs.Words.{◌≡◌, ℕ, zero, suc, ◌-◌, ◌<◌, ◌≤◌, Bool, true, false, nat_lt, nat_le, List, [], ◌∷◌, ◌++◌, length, Option, Some, None, slice_get, refl, is_some, list_all, sym, ◌∙◌, ap, true≢false, bytes_eq-Decides, ltb-true, leb-true, Name, name_eq, Stmt, Expr, Database, stmt_at, before, is_active, is_variable, is_assertion, label_of, expr_of, hypotheses, mandatory_groups, Images, applied, are_groups_disjoint, Item, Cite, Recall, Mark, is_hypothesis_kind, IsInstance, premises, Carries, State, start, of_hypothesis, of_assertion, with_result, with_mark, RunsItem, Runs, below, top, IsRight, weight_limit}
 use Rattle.mm_read.specs.declared.stmt.Stmt.TheVariants.{Float}
 use Rattle.verify.proofs.Sound.{sound}
 
@@ -70,7 +70,7 @@ module _ (S : Database) (at : ℕ) where
   find zero label = None
   find (suc n) label = or_else (here (suc n) label) (find n label)
 
-  abbrev pub cite_hypothesis : (st : State) (label : Name) → Found label → Option ((next : State) × Steps S at st (Cite label) next)
+  abbrev pub cite_hypothesis : (st : State) (label : Name) → Found label → Option ((next : State) × RunsItem S at st (Cite label) next)
   cite_hypothesis st label found =
       bind (test (is_hypothesis_kind found.1)) (λ kind.
       bind (test (is_active S found.0 at)) (λ active.
@@ -79,7 +79,7 @@ module _ (S : Database) (at : ℕ) where
         (st.stack, expr_of found.1, of_hypothesis found.0 found.1 found.2 (record { stands = found.2.stands; kind = kind; active = active }) refl refl, refl),
       )))
 
-  abbrev pub cite_assertion : (st : State) (label : Name) → Found label → Option ((next : State) × Steps S at st (Cite label) next)
+  abbrev pub cite_assertion : (st : State) (label : Name) → Found label → Option ((next : State) × RunsItem S at st (Cite label) next)
   cite_assertion st label found =
       let hyps = hypotheses (before S found.0) found.1 in
       let rest = below (length hyps) st.stack in
@@ -93,7 +93,7 @@ module _ (S : Database) (at : ℕ) where
       let fits : IsInstance S at found.0 found.1 σ = record { earlier = earlier; stands = found.2.stands; assertion = assertion; of_variables = of_variables; disjoint = disjoint } in
       Some (with_result st rest e, (rest, e, of_assertion found.0 found.1 σ found.2 fits same refl, refl)))))))
 
-  abbrev pub step : (st : State) (item : Item) → Option ((next : State) × Steps S at st item next)
+  abbrev pub step : (st : State) (item : Item) → Option ((next : State) × RunsItem S at st item next)
   step st (Cite label) = bind (find (length S) label) (λ found. or_else (cite_hypothesis st label found) (cite_assertion st label found))
   step st (Recall zero) = None
   step st (Recall (suc k)) = bind (look (slice_get st.saved k)) (λ found. Some (with_result st st.stack found.0, (found.0, found.1, refl)))

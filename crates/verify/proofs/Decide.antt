@@ -1,5 +1,5 @@
 -- The machine is deterministic, so a run that cannot continue refutes the proof.
-use Rattle.verify.proofs.Words.{◌≡◌, ℕ, zero, suc, ◌+◌, ◌<◌, ◌≤◌, true, List, [], ◌∷◌, ◌++◌, length, Some, refl, sym, ◌∙◌, ap, subst, arith, append-nil, length-append, length-map, same_from_push, Name, Stmt, Ess, Expr, Database, stmt_at, before, expr_of, is_assertion, hypotheses, Images, applied, Item, Cite, Recall, Mark, IsHypothesis, IsInstance, premises, is_hypothesis_kind, expr_at, Carries, State, start, Cites, of_hypothesis, of_assertion, IsSaved, with_result, with_mark, Steps, Runs, IsRight, weight_limit, HasSingleResults, HasLabelsOnce, some-same}
+use Rattle.verify.proofs.Words.{◌≡◌, ℕ, zero, suc, ◌+◌, ◌<◌, ◌≤◌, true, List, [], ◌∷◌, ◌++◌, length, Some, refl, sym, ◌∙◌, ap, subst, arith, append-nil, length-append, length-map, same_from_push, Name, Stmt, Ess, Expr, Database, stmt_at, before, expr_of, is_assertion, hypotheses, Images, applied, Item, Cite, Recall, Mark, IsHypothesis, IsInstance, premises, is_hypothesis_kind, expr_at, Carries, State, start, Cites, of_hypothesis, of_assertion, IsSaved, with_result, with_mark, RunsItem, Runs, IsRight, weight_limit, HasSingleResults, HasLabelsOnce, some-same}
 use Rattle.mm_read.specs.declared.stmt.Stmt.TheVariants.{Float}
 use Rattle.verify.proofs.Sound.{Spelled, sound}
 use Rattle.verify.proofs.Complete.{state, Result, complete, conclude_instance, conclude_same}
@@ -64,7 +64,7 @@ module _ (S : Database) (at : ℕ) (single : HasSingleResults S at) (once : HasL
   saved_same saved (suc k) e e' p q = some-same p q
 
   -- an item has at most one step from a state
-  pub steps_same : (st x y : State) (item : Item) → Steps S at st item x → Steps S at st item y → x ≡ y
+  pub steps_same : (st x y : State) (item : Item) → RunsItem S at st item x → RunsItem S at st item y → x ≡ y
   steps_same st x y (Cite label) p q = let r = cites_same label st.stack p.0 q.0 p.1 q.1 p.2 q.2 in result_same st x y p.0 q.0 p.1 q.1 p.3 q.3 r.0 r.1
   steps_same st x y (Recall k) p q = result_same st x y st.stack st.stack p.0 q.0 p.2 q.2 refl (saved_same st.saved k p.0 q.0 p.1 q.1)
   steps_same st x y Mark p q = p.3 ∙ (ap (with_mark st) (same_from_push p.0 q.0 p.1 q.1 (sym p.2 ∙ q.2)).1 ∙ sym q.3)
@@ -76,7 +76,7 @@ module _ (S : Database) (at : ℕ) (single : HasSingleResults S at) (once : HasL
       runs_rest front rest q.0 mid end (subst (λ r. Runs S at r (front ++ rest) end) (steps_same st p.0 q.0 item p.1 q.1) p.2) q.2
 
   -- a step never decreases the weight
-  steps_weight : (st next : State) (item : Item) → Steps S at st item next → st.weight ≤ next.weight
+  steps_weight : (st next : State) (item : Item) → RunsItem S at st item next → st.weight ≤ next.weight
   steps_weight st next (Cite label) p = let e = ap (λ r. r.weight) p.3 in omega (arith, e)
   steps_weight st next (Recall k) p = let e = ap (λ r. r.weight) p.2 in omega (arith, e)
   steps_weight st next Mark p = let e = ap (λ r. r.weight) p.3 in omega (arith, e)
@@ -122,7 +122,7 @@ module _ (S : Database) (at : ℕ) (single : HasSingleResults S at) (once : HasL
 
   -- if the next item has no step, or none within the limit on the weight, the items are not right
   pub refuted_at_step : (front rest : List Item) (item : Item) (st : State) (s : Stmt) → stmt_at S at ≡ Some s → Runs S at start front st
-      → ((next : State) → Steps S at st item next → weight_limit < next.weight) → IsRight S at (front ++ item ∷ rest) → ⊥
+      → ((next : State) → RunsItem S at st item next → weight_limit < next.weight) → IsRight S at (front ++ item ∷ rest) → ⊥
   refuted_at_step front rest item st s stands p none right =
       let a : Accepts (front ++ item ∷ rest) (expr_of s) = right_accepts (front ++ item ∷ rest) s stands right in
       let q : Runs S at st (item ∷ rest) a.end = runs_rest front (item ∷ rest) start st a.end a.runs p in

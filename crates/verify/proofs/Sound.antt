@@ -1,5 +1,5 @@
 -- A run of the machine spells derivations of its results.
-use Rattle.verify.proofs.Words.{◌≡◌, ℕ, zero, suc, ◌+◌, List, [], ◌∷◌, ◌++◌, length, Some, slice_get, refl, sym, ◌∙◌, ap, subst, append_assoc, append-nil, add_assoc, zero-add, add-zero, Name, Expr, Database, Item, Cite, Recall, Mark, Derivation, Derivations, hyp, apply, none, more, Concludes, ConcludeAll, premises, Spells, SpellsAll, cites_hypothesis, cites_assertion, recalls, marks, spells_none, spells_more, State, start, Cites, of_hypothesis, of_assertion, IsSaved, with_result, with_mark, Steps, Runs}
+use Rattle.verify.proofs.Words.{◌≡◌, ℕ, zero, suc, ◌+◌, List, [], ◌∷◌, ◌++◌, length, Some, slice_get, refl, sym, ◌∙◌, ap, subst, append_assoc, append-nil, add_assoc, zero-add, add-zero, Name, Expr, Database, Item, Cite, Recall, Mark, Derivation, Derivations, hyp, apply, none, more, Concludes, ConcludeAll, premises, Spells, SpellsAll, cites_hypothesis, cites_assertion, recalls, marks, spells_none, spells_more, State, start, Cites, of_hypothesis, of_assertion, IsSaved, with_result, with_mark, RunsItem, Runs}
 
 module _ (S : Database) (at : ℕ) where
   abbrev pub AllConclude : List Derivation → List Expr → Type 0
@@ -157,7 +157,7 @@ module _ (S : Database) (at : ℕ) where
       }
 
   -- after a step each result has a derivation
-  pub backed_step : (items : List Item) (st st' : State) (item : Item) → Backed items st → Steps S at st item st' → Backed (items ++ item ∷ []) st'
+  pub backed_step : (items : List Item) (st st' : State) (item : Item) → Backed items st → RunsItem S at st item st' → Backed (items ++ item ∷ []) st'
   backed_step items st st' (Cite label) b p = subst (Backed (items ++ Cite label ∷ [])) (sym p.3) (backed_cite items st label p.0 p.1 b p.2)
   backed_step items st st' (Recall k) b p = subst (Backed (items ++ Recall k ∷ [])) (sym p.2) (backed_recall items st k p.0 b p.1)
   backed_step items st st' Mark b p = subst (Backed (items ++ Mark ∷ [])) (sym p.3) (backed_mark items st p.0 p.1 b p.2)

@@ -1,5 +1,5 @@
 -- A run that stops, and whether its items are right.
-use Rattle.verify.proofs.Words.{◌≡◌, ℕ, ◌+◌, ◌<◌, ◌≤◌, false, List, [], ◌∷◌, ◌++◌, length, map, take, drop, get_or, Some, slice_get, sym, ◌∙◌, ap, subst, arith, length-map, take-append-drop, take-map, take_all, drop_more, slice_get-map, slice_get-get_or, slice_get_within, some-same, option_map, Name, Stmt, Database, stmt_at, expr_of, decode, Item, Mark, Results, start, Runs, Steps, AreBelow, named, StepsByNumber, HasLegalProperties, item_of, items_of, IsRight, weight_limit, StopsAt, LabelEntry, AreEntries, without_cached}
+use Rattle.verify.proofs.Words.{◌≡◌, ℕ, ◌+◌, ◌<◌, ◌≤◌, false, List, [], ◌∷◌, ◌++◌, length, map, take, drop, get_or, Some, slice_get, sym, ◌∙◌, ap, subst, arith, length-map, take-append-drop, take-map, take_all, drop_more, slice_get-map, slice_get-get_or, slice_get_within, some-same, option_map, Name, Stmt, Database, stmt_at, expr_of, decode, Item, Mark, Results, start, Runs, RunsItem, AreBelow, named, StepsByNumber, HasLegalProperties, item_of, items_of, IsRight, weight_limit, StopsAt, LabelEntry, AreEntries, without_cached}
 use Rattle.verify.proofs.Decide.{refuted_at_step, accepts_right}
 use Rattle.verify.proofs.StepLemmas.{Reached, right-end, wrong-end}
 
@@ -16,7 +16,7 @@ module _ (S : Database) (names : List Name) (at : ℕ) (legal : HasLegalProperti
     within = let l = length-map numbers (item_of labels) in omega (arith, less, l);
     runs = subst (λ is. Runs S at start is (named names old)) (sym (take-map (item_of labels) k numbers)) r.runs;
     are_named = r.are_named;
-    stuck = λ item is next steps. goes next (subst (λ i. Steps S at (named names old) i next) (sym (item-at labels numbers k item less is)) steps);
+    stuck = λ item is next steps. goes next (subst (λ i. RunsItem S at (named names old) i next) (sym (item-at labels numbers k item less is)) steps);
   })
 
   -- the run stops at the end

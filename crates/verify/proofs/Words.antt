@@ -81,7 +81,7 @@ pub use Rattle.verify.specs.Growth.{Builds, Grew, Grows, GrowsBy, IsSavedTree, T
 pub use Rattle.verify.specs.CitationCache.{IsCacheFor, AreKeptLists, AreListsOf, AreMadeOf, HasListsAt, IsCitedBy, CheckerCache, CitationLists, AreSameCondition, are_covered, is_paired}
 pub use Rattle.verify.specs.LabelTable.{AreEntries, IsEntry, is_hypothesis_among, viewed_entries}
 pub use Rattle.verify.specs.Laws.{RunsSpell, SpelledOnce, SpellingsRun}
-pub use Rattle.verify.specs.Machine.{Cites, IsSaved, Results, Runs, State, Steps, of_assertion, of_hypothesis, start, with_mark, with_result}
+pub use Rattle.verify.specs.Machine.{Cites, IsSaved, Results, Runs, State, RunsItem, of_assertion, of_hypothesis, start, with_mark, with_result}
 pub use Rattle.verify.specs.Plan.{AreOrdered, IsAfter, IsPlan, built, built_from, derive, pick, trees_of}
 pub use Rattle.verify.specs.Proves.{Proves, label_or_empty, mandatory_labels}
 pub use Rattle.verify.specs.ReadPlaces.{BeginsWith, IsMistyped, ReadTo, ReadsAll, tail_of}

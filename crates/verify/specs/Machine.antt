@@ -38,12 +38,12 @@ abbrev pub with_mark : {A : Type 0} → Results A → List A → Results A
 with_mark st e = record { stack = st.stack; saved = st.saved ++ e ∷ []; weight = st.weight }
 
 -- the item takes the results st to st'
-abbrev pub Steps : Database → ℕ → State → Item → State → Type 0
-Steps S at st (Cite label) st' = (below : List Expr) × (e : Expr) × Cites S at label st.stack below e × (st' ≡ with_result st below e)
-Steps S at st (Recall k) st' = (e : Expr) × IsSaved st.saved k e × (st' ≡ with_result st st.stack e)
-Steps S at st Mark st' = (below : List Expr) × (e : Expr) × (st.stack ≡ below ++ e ∷ []) × (st' ≡ with_mark st e)
+abbrev pub RunsItem : Database → ℕ → State → Item → State → Type 0
+RunsItem S at st (Cite label) st' = (below : List Expr) × (e : Expr) × Cites S at label st.stack below e × (st' ≡ with_result st below e)
+RunsItem S at st (Recall k) st' = (e : Expr) × IsSaved st.saved k e × (st' ≡ with_result st st.stack e)
+RunsItem S at st Mark st' = (below : List Expr) × (e : Expr) × (st.stack ≡ below ++ e ∷ []) × (st' ≡ with_mark st e)
 
 -- the items, one after the other, take the results st to st'
 abbrev pub Runs : Database → ℕ → State → List Item → State → Type 0
 Runs S at st [] st' = st ≡ st'
-Runs S at st (item ∷ items) st' = (next : State) × Steps S at st item next × Runs S at next items st'
+Runs S at st (item ∷ items) st' = (next : State) × RunsItem S at st item next × Runs S at next items st'

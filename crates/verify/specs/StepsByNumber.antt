@@ -6,7 +6,7 @@ use Rattle.verify.specs.Words.{Name, Stmt, Expr, Database, before, AllBelow, Ite
 use Rattle.verify.specs.declared.label_table.LabelEntry.{LabelEntry}
 use Rattle.verify.specs.declared.label_table.LabelEntry.TheVariants.{Nothing}
 use Rattle.verify.specs.LabelTable.{IsEntry}
-use Rattle.verify.specs.Machine.{Results, State, Cites, Steps}
+use Rattle.verify.specs.Machine.{Results, State, Cites, RunsItem}
 use Rattle.verify.specs.Right.{weight_limit}
 use Rattle.verify.specs.declared.citation.ProofContext.{ProofContext}
 
@@ -21,8 +21,8 @@ pub record AreNamed (names : List Name) (st : Results ℕ) : Type 0 where
 
 -- the item was done, or it cannot be done within the limit
 abbrev pub StepsByNumber : Bool → Database → ℕ → List Name → Item → Results ℕ → Results ℕ → Type 0
-StepsByNumber true S at names item old new = Steps S at (named names old) item (named names new) × AreNamed names new
-StepsByNumber false S at names item old new = (next : State) → Steps S at (named names old) item next → weight_limit < next.weight
+StepsByNumber true S at names item old new = RunsItem S at (named names old) item (named names new) × AreNamed names new
+StepsByNumber false S at names item old new = (next : State) → RunsItem S at (named names old) item next → weight_limit < next.weight
 
 -- a label with this meaning was cited, and nothing was saved, or it cannot be cited within the limit
 abbrev pub HasCited : Database → ℕ → List Name → LabelEntry → Results ℕ → Results ℕ → Bool → Type 0

@@ -4,7 +4,7 @@
 use Rattle.std.specs.Prelude.{◌≡◌, ℕ, ◌<◌, ◌≤◌, List, [], ◌∷◌, length, map, take, slice_get, Some}
 use Rattle.verify.specs.Words.{Name, Stmt, Database, stmt_at, expr_of, Item, decode}
 use Rattle.verify.specs.StepsByNumber.{named, AreNamed, without_cached}
-use Rattle.verify.specs.Machine.{Results, State, start, Runs, Steps}
+use Rattle.verify.specs.Machine.{Results, State, start, Runs, RunsItem}
 use Rattle.verify.specs.Right.{weight_limit}
 use Rattle.verify.specs.declared.failure.Failure.{Failure}
 use Rattle.verify.specs.declared.failure.Failure.TheVariants as failure
@@ -14,7 +14,7 @@ pub record StopsAt (S : Database) (at : ℕ) (names : List Name) (items : List I
   pub within : done ≤ length items
   pub runs : Runs S at start (take done items) (named names st)
   pub are_named : AreNamed names st
-  pub stuck : (item : Item) → slice_get items done ≡ Some item → (next : State) → Steps S at (named names st) item next → weight_limit < next.weight
+  pub stuck : (item : Item) → slice_get items done ≡ Some item → (next : State) → RunsItem S at (named names st) item next → weight_limit < next.weight
 
 -- the stack is not the expression alone
 abbrev pub IsNotOnly : List Name → Results ℕ → Stmt → Type 0

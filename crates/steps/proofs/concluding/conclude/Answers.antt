@@ -4,14 +4,14 @@ use Rattle.steps.proofs.concluding.conclude.Goals as goal
 
 pub unreachable-requires : goal.unreachable-requires
 unreachable-requires c =
-    never-other c.args.symbols.now c.as_slice.result.now c.args.cited.now.typecodes.now c.args.cited.now.hypotheses c.args.ranges.now c.read_off.new.images c.as_slice.ensures.symbols c.requires.same c.requires.within
+    never-other c.args.symbols.now c.as_slice.result.now c.args.cited.now.typecodes.now c.args.cited.now.hypotheses c.args.ranges.now c.read_off.new.images c.as_slice.ensures.symbols c.requires.count c.requires.within
     (is_some c.in_ok-read_off.field-0) c.requires.typed c.in_ok-read_off.ensures.ok (ap is_some c.in_default.is)
 
 pub returns-clause-added : goal.returns-clause-added
 returns-clause-added c =
     let σ = images_at c.args.symbols.now c.read_off.new.images in (
       σ,
-      all-read c.args.symbols.now c.as_slice.result.now c.args.cited.now.typecodes.now c.args.cited.now.hypotheses c.args.ranges.now c.read_off.new.images c.as_slice.ensures.symbols c.requires.same c.requires.within
+      all-read c.args.symbols.now c.as_slice.result.now c.args.cited.now.typecodes.now c.args.cited.now.hypotheses c.args.ranges.now c.read_off.new.images c.as_slice.ensures.symbols c.requires.count c.requires.within
           (is_some c.in_ok-read_off.field-0) c.in_ok-read_off.ensures.ok (ap is_some c.in-Some.is),
       (subst (λ v. Appends v (SYMBOLS_LIMIT - c.len-start.result) c.args.symbols.now c.add_applied.new.self (code_apply σ c.in_ok-conclusion.conclusion.now)) c.if-not-branch.false c.in_ok-add_applied.ensures.ok).0
           ∙ ap (λ e. c.args.symbols.now ++ e) (c.in_ok-conclusion.ensures c.args.symbols.now),

@@ -1,4 +1,4 @@
-use Rattle.steps.proofs.Words.{suc, ◌-◌, [], get_or, arith, sym, ◌∙◌, ap, subst, None, on_ok_weaker, Recall, item_of, item-cite, item-recall, RunDoes, IsItemRecorded, suc_back}
+use Rattle.steps.proofs.Words.{suc, ◌-◌, [], get_or, arith, sym, ◌∙◌, ap, subst, None, on_ok_weaker, Recall, item_of, item-cite, item-recall, CanRun, IsItemRecorded, suc_back}
 use Rattle.steps.proofs.DraftedItemLemmas.{position-there}
 use Rattle.steps.proofs.recording.record_item.Goals as goal
 
@@ -28,7 +28,7 @@ cite-requires-clause-can c =
       label,
       at_place.0,
       at_place.1,
-      subst (RunDoes c.args.frames.now.statements c.args.at c.args.frames.now.names c.args.draft.now) (item-cite p.0 c.args.number (c.args.number - 1) (suc_back c.args.number c.if-number-eq0.false) (omega (arith, n, h))) p.2,
+      subst (CanRun c.args.frames.now.statements c.args.at c.args.frames.now.names c.args.draft.now) (item-cite p.0 c.args.number (c.args.number - 1) (suc_back c.args.number c.if-number-eq0.false) (omega (arith, n, h))) p.2,
     )
 
 pub returns-clause-done : goal.returns-clause-done
