@@ -17,8 +17,8 @@ struct RuleContext<'a> {
     rule: Rule,
 }
 
-/// Writes the rule that the statement breaks; if a symbol or label breaks it, also that one; and if it does so because of
-/// another use of the same name, the place of that use.
+/// Writes how the statement breaks the rule: the symbol or label that breaks it, if one does, and
+/// the place of the earlier use of the same name with which it conflicts, if there is one.
 pub(crate) fn explain_rule(
     alloc: Global,
     lines: &mut Lines<'_>,
@@ -227,7 +227,8 @@ fn push_other_use(lines: &mut Lines<'_>, context: &RuleContext<'_>, name: &[u8],
     lines.push(b"\n");
 }
 
-/// Returns the message for how a statement uses a name, and the number, from 1, of the token that is the name.
+/// Returns the message for how a statement uses a name, and the number, from 1, of the token that
+/// is the name; for a variable of a `$f`, of the label of the `$f`.
 fn use_of(stmt: &Stmt, name: &[u8]) -> (&'static [u8], usize) {
     match stmt {
         Stmt::Const(names) => (

@@ -32,8 +32,9 @@ pub enum DatabaseFault {
 /// Returns the lines that explain why the text is refused, at most 65,536 bytes. They are unspecified if
 /// the text does not have this fault. The name of its file, if given, is written before each place.
 ///
-/// Errors: an allocation fails, or those of `explain::explain`. Cost: a few passes over the text, the cost
-/// of adding its statements again, and for a proof that of `explain::explain`.
+/// Errors: an allocation fails, or those of `explain::explain`. Cost: a few passes over the text;
+/// for `Rule` also that of `rule_violation::violation_of`, and for `Proof` and `Unfinished` those
+/// of `LegalDatabase::new` and `explain::explain`.
 pub fn explain_refusal(
     alloc: Global,
     name: Option<&str>,

@@ -78,8 +78,9 @@ fn ends_item(letter: u8) -> bool {
     letter.is_ascii_uppercase() && (letter <= b'T' || letter == b'Z')
 }
 
-/// Returns the step number of the item: the count of citations and recalls up to and including it. For a mark it is the
-/// number of the step whose result it marks.
+/// Returns the step number of the item: the count of citations and recalls up to and including it.
+/// For a mark it is the number of the step whose result it marks. Here a recall is a step, and so
+/// is a repeated citation; in the tables of the crate `steps` neither is.
 pub(crate) fn step_of(numbers: &[u32], item: usize) -> usize {
     numbers
         .iter()

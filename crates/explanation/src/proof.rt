@@ -1,7 +1,9 @@
 //! Explains why a proof is wrong or unfinished.
 //!
-//! Either its tokens break a rule of proof code, so that they cannot be read as items; or the run, in which the verifier
-//! goes through the items with a stack of results, fails at one of them or does not end with the theorem alone.
+//! Proof code is the form of a proof's tokens, normal or compressed; the items that they write are
+//! citations, recalls and marks (`item_spots`). Either the tokens break a rule of proof code, so
+//! that they cannot be read as items; or the run, in which the verifier goes through the items with
+//! a stack of results, fails at one of them or does not end with the theorem alone.
 ghost use Rattle.mm_read.specs.declared.stmt.Stmt.{Stmt as Statement};
 ghost use Rattle.mm_read.specs.Statements.{AreShaped};
 ghost use Rattle.verify.specs.Right.{IsProvable};
@@ -161,7 +163,8 @@ fn expr_at(frames: &Frames, at: usize) -> &[u32] {
     frames.expr(at)
 }
 
-/// Writes the step number of the item, and the label that it cites, if it is a citation.
+/// Writes the step number of the item, and that it marks a result, recalls one, or cites a label,
+/// and which label.
 fn push_step(lines: &mut Lines<'_>, items: &Items, item: usize) {
     let parts = items.parts();
     lines.push(b" is wrong at step ");

@@ -14,7 +14,9 @@ pub(crate) fn label_of(stmt: &Stmt) -> &[u8] {
     }
 }
 
-/// Returns the number of the token, from 1, that is the first symbol of a statement.
+/// Returns the number of the token, from 1, that is the first symbol of a statement: it follows the
+/// keyword, and a label stands before the keyword of `$f`, `$e`, `$a` and `$p`. It is
+/// unspecified for `${` and `$}`, which have no symbols.
 pub(crate) fn first_symbol_token(stmt: &Stmt) -> usize {
     match stmt {
         Stmt::Const(_) => 2,
@@ -24,7 +26,8 @@ pub(crate) fn first_symbol_token(stmt: &Stmt) -> usize {
     }
 }
 
-/// Returns the symbol at an index, from 0, or an empty one if there is none.
+/// Returns the symbol at an index, from 0, or an empty one if there is none. In a `$f` each
+/// index above 0 gives the variable.
 pub(crate) fn symbol_at(stmt: &Stmt, index: usize) -> &[u8] {
     match stmt {
         Stmt::Const(names) => token_at(names, index),

@@ -16,6 +16,7 @@ pub(crate) fn push_fault(
     match fault {
         ItemFault::UnknownLabel => lines.push(b"  no statement has this label\n"),
         ItemFault::Inactive { .. } => push_inactive(lines, theorem),
+        // A hypothesis that comes after the theorem is not active there either.
         ItemFault::NotEarlier { statement } if theorem.is_hypothesis(*statement) => {
             push_inactive(lines, theorem);
         }

@@ -55,7 +55,9 @@ fn explain_comment(lines: &mut Lines<'_>, text: &[u8], offset: usize)
     }
 }
 
-/// Writes the place of the first `$)` after an offset that is only part of a longer token, if there is one.
+/// Writes the first run of bytes without white space, from an offset on, that contains `$)`, and
+/// where the run begins, if there is one. After a comment that is never closed, such a run is
+/// longer than `$)`.
 fn explain_comment_end_within_token(lines: &mut Lines<'_>, text: &[u8], offset: usize) {
     let Some(rest) = text.get(offset..) else {
         return;

@@ -6,7 +6,9 @@ use std::io::Write;
 /// The least number of pages for which progress is printed.
 const MIN_PAGES_FOR_PROGRESS: u64 = 5_000;
 
-/// Prints how many pages are written, after each tenth of them but the last, if they are many.
+/// Prints how many of `total` pages are written, at each multiple of `total / 10` (rounded down)
+/// below `total`; nothing if `total` is below `MIN_PAGES_FOR_PROGRESS`. A line that cannot be
+/// allocated or written is dropped.
 pub fn print_progress<F: Write>(alloc: Global, progress: &mut F, written: u64, total: u64) {
     let tenth = total / 10;
     if total < MIN_PAGES_FOR_PROGRESS || tenth == 0 || written % tenth != 0 || written == total {

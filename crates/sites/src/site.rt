@@ -17,10 +17,11 @@ use std::alloc::{AllocError, Global};
 use std::io::Write;
 use std::str::from_utf8;
 
-/// A library, and the text that it was read from.
+/// The sources of a site: a library, and the text that it was read from.
 #[derive(Drop)]
 pub struct Site<'a> {
-    /// The text, with the descriptions of its assertions.
+    /// The text. The description of an assertion is the last comment between the statement before
+    /// it and its first token. No clause requires that the text reads as the library's statements.
     pub text: &'a [u8],
     pub library: &'a Library,
 }
@@ -57,11 +58,11 @@ impl From<AskFault> for SiteFault {
 }
 
 /// Writes the style sheet, a page for each assertion and an index of them into the folder at a
-/// path. The progress of a site with many pages is printed to `progress`.
+/// path. If there are 5,000 pages or more, lines that say how many are written go to `progress`.
 ///
 /// Errors: `Memory`, `Folder` or `File`; the files before the error are written. Cost: that of
-/// `cross_references`, of each proof's steps, and the bytes written; one page is in memory at a
-/// time.
+/// `cross_references`, of each proof's steps, the size of the text, and the bytes written; one page
+/// is in memory at a time.
 pub fn write_site<F: Write, S: Folder>(
     alloc: Global,
     site: &Site<'_>,

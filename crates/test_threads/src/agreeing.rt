@@ -28,7 +28,8 @@ fn three_threads_agree(rt: HostRuntime) {
     }
 }
 
-/// Returns whether three nodes, of which node 0 has this weight, add a text that is submitted at the leader.
+/// Returns whether three new nodes, of which node 0 has this weight, serve a text that is submitted
+/// at the leader, and then stop, as expected.
 fn agree<R: Threads + Wait + Clock + Copy + Send + Sync + Drop + 'static>(
     rt: &R,
     alloc: Global,
@@ -120,7 +121,7 @@ fn lists_only_axiom<R: Wait>(rt: &R, desk: &Desk<OpenGate, EntryKeep>) -> Result
     Ok(listed && desk.compare(rt, 0, 1)? == Ahead::Same && desk.compare(rt, 2, 1)? == Ahead::Same)
 }
 
-/// Returns whether each call at node `k` says that there is no such node.
+/// Returns whether `begin`, `submit` and `restart` at node `k` say that there is no such node.
 fn has_no_node<R: Wait>(
     rt: &R,
     alloc: Global,

@@ -1,5 +1,7 @@
-//! A text is added at node 0 even if one allocation, whichever it is, fails. If the failure ends the first attempt with
-//! `Memory`, a second attempt is made, with new nodes.
+//! A text is added at node 0 even if one allocation, whichever it is, fails. If the failure ends
+//! the first attempt with `Memory`, a second attempt is made, with new nodes. The test makes no
+//! allocation fail itself: `bench/failed_allocations` runs it with each of its allocations, or
+//! 2,000 evenly among more, failing in turn.
 use crate::three_nodes::{
     EntryKeep, polled_verdict, same_weathers, start_three_nodes_with_open_gate, text_entry,
 };
@@ -13,8 +15,8 @@ use std::time::Clock;
 use synod::Weights;
 use verify_pool::{Gate, OpenGate};
 
-/// If an allocation fails, `start`, `desk`, `submit` or `stop` returns an error; or a packet is lost, an entry is applied only
-/// at a later hint, or a keep fails, and its node is down until it restarts.
+/// If an allocation fails, a call of the test returns an error; or a packet is lost, an entry is
+/// applied only at a later hint, or a keep fails, and its node is down until it restarts.
 #[test]
 fn decides_after_a_failed_allocation(rt: HostRuntime) {
     let mut verdict = verdict_of_three_nodes(&rt, rt.alloc());
@@ -50,9 +52,9 @@ fn verdict_before_stop<R: Threads + Wait + Clock>(
     verdict
 }
 
-/// Returns the verdict at node 0 on a text that is submitted there up to 30 times, or `None` if there is none even then. Before
-/// each time node 0 begins a ballot, whose packets replace those that a failed allocation lost; if it is down, it is restarted
-/// first.
+/// Returns the verdict at node 0 on a text that is submitted there up to 30 times, or `None` if
+/// there is none even then. Node 0 begins a ballot before each submission, since its packets
+/// replace those that a failed allocation lost; a node that is down is restarted first.
 fn verdict_at_desk<G: Gate, R: Wait + Clock>(
     rt: &R,
     alloc: Global,

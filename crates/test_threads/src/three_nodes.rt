@@ -116,7 +116,7 @@ pub fn polled_verdict<G: Gate, R: Wait + Clock>(
 /// How many times a desk is polled for a verdict, once a millisecond: for 20 seconds at least.
 pub const MAX_POLLS: u32 = 20_000;
 
-/// Returns whether each node adds the text with that serial number within `MAX_POLLS`.
+/// Returns whether each node adds the text with that serial number within `MAX_POLLS` polls.
 pub fn is_added_by_all<G: Gate, R: Wait + Clock>(
     rt: &R,
     desk: &Desk<G, EntryKeep>,

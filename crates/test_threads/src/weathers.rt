@@ -53,7 +53,8 @@ fn served_by_all(rt: HostRuntime) {
     assert!(rt; nodes_answer_alike(&rt, rt.alloc()) == Ok(true));
 }
 
-/// Returns whether each node answers like one library to which the texts are applied in order, also after a restart.
+/// Returns whether each node answers like one library to which the texts are applied in order, node
+/// 2 also after a restart.
 fn nodes_answer_alike<R: Threads + Wait + Clock + Copy + Send + Sync + Drop + 'static>(
     rt: &R,
     alloc: Global,
@@ -122,7 +123,8 @@ fn cluster_answers_like<R: Wait + Clock>(
     desk_answers_like(rt, alloc, &desk, library)
 }
 
-/// Submits the texts at the desk, and returns whether each node then answers like the library, node 2 also after a restart.
+/// Submits the texts at the desk. Returns whether no node lists an assertion before, and each then
+/// answers like the library, node 2 also after a restart.
 fn desk_answers_like<R: Wait + Clock>(
     rt: &R,
     alloc: Global,
@@ -221,8 +223,9 @@ fn a_filled_gap_is_applied(rt: HostRuntime) {
     assert!(rt; fills_its_gap(&rt, rt.alloc()) == Ok(true));
 }
 
-/// Returns whether node 2 applies all of six texts. The packets of the first one do not reach it, and its requests are lost
-/// while it learns the next four. As it learns the sixth, it asks for the first, and the answer has all that it lacks.
+/// Returns whether node 2 applies all of six texts. The packets of the first do not reach it, and
+/// while it learns the next four, its requests for the first are lost. When it learns the sixth, it
+/// asks again, and the answer has all that it lacks.
 fn fills_its_gap<R: Threads + Wait + Clock + Copy + Send + Sync + Drop + 'static>(
     rt: &R,
     alloc: Global,
@@ -305,6 +308,7 @@ fn learns_at<R: Wait + Clock>(
     third_setting.store(PASS, Ordering::SeqCst);
     thread::sleep(rt, Duration::from_millis(TRANSIT_MILLIS));
     first_two_setting.store(PASS, Ordering::SeqCst);
+    // Node 2 applies no text before the first, which it has not learned yet.
     let lacks_fifth = desk.status(rt, 2, 7, 5)?.is_none();
     submit_text(rt, alloc, desk, 6, b"$c a $.")?;
     Ok(decided && more && lacks_fifth && is_added_by_all(rt, desk, 6)?)
