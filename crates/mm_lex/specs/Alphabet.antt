@@ -31,9 +31,9 @@ abbrev pub is_empty_or_starts_white : List ℕ → Bool
 is_empty_or_starts_white [] = true
 is_empty_or_starts_white (b ∷ bytes) = is_white b
 
--- the runs from the visible byte at `at` on; `spans` are the runs after that byte. It is a run of
--- its own if a white byte or the end of the text follows it (`true`), else the first byte of the
--- first run
+-- the runs from offset `at` on, where a visible byte is; `spans` are the runs after that byte. The
+-- byte is a run of its own if a white byte or the end of the text follows it (`true`), else the
+-- first byte of the first of `spans`
 abbrev pub with_byte : ℕ → Bool → List Span → List Span
 with_byte at true spans = record { start = at; end = at + 1 } ∷ spans
 with_byte at false [] = record { start = at; end = at + 1 } ∷ []

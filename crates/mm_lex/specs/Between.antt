@@ -1,5 +1,5 @@
--- The tokens (words outside comments) between two offsets of a text, and after an offset, that is,
--- from the byte at it on.
+-- The tokens (words outside comments) between two offsets of a text, and after an offset. The text
+-- after an offset includes the byte at the offset.
 -- Source: Metamath, 4.1.1 and 4.1.2.
 -- The code goes from token to token; here the runs between two offsets, or after one, are split at
 -- the comments at once.

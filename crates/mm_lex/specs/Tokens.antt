@@ -43,7 +43,8 @@ AreCommentsAndTokens text [] = Unit {0}
 AreCommentsAndTokens text (p ∷ ps) = IsCommentAndTokens text p × AreCommentsAndTokens text ps
 
 -- the runs split into plain runs and whole comments; the plain runs outside the comments are the
--- tokens
+-- tokens: `first` are those before the first comment, `parts` the comments, each with the tokens
+-- after it
 pub record SplitsInto (text : List ℕ) (spans tokens : List Span) : Type 0 where
   pub first : List Span
   pub parts : List CommentAndTokens

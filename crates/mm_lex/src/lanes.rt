@@ -1,5 +1,5 @@
-//! Counts the visible or the white bytes at the start of a text. It compares 16 visible bytes at a
-//! time, and of the white ones the first 16 at once.
+//! Counts the visible or the white bytes at the start of a text. Visible bytes are compared 16 at a
+//! time; the first 16 white bytes are compared at once, and any further ones one by one.
 ghost use Rattle.std.specs.Prelude.{◌≡◌, ◌+◌, ◌-◌, ◌≤◌, not, length, take, drop, nat_le, nat_lt};
 ghost use Rattle.std.specs.List.{position, position_or_len};
 ghost use Rattle.mm_lex.specs.Alphabet.{is_white};

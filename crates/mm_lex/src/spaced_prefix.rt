@@ -10,8 +10,9 @@ use std::simd::prelude::*;
 /// may precede the first one.
 ///
 /// The prefix ends at the first byte below the space, at the first `$`, or at the first space that
-/// the end of the text or a byte up to `$` follows. So it also ends at a space in front of a symbol
-/// that begins with `!`, `"` or `#`, and its last symbol may be only the beginning of a token.
+/// is followed by a byte of at most `$` or by the end of the text. So it also ends at a space in
+/// front of a symbol that begins with `!`, `"` or `#`, and its last symbol may be only the
+/// beginning of a token.
 pub(crate) fn count_spaced_prefix(text: &[u8]) -> usize
     ensures count { result ≡ spaced_prefix_len text.now }
     ensures within { result ≤ length text.now }

@@ -59,9 +59,10 @@ fn with_estimated_capacity(alloc: Global, text: &[u8]) -> Result<Words, AllocErr
     Words::with_capacity(alloc, room)
 }
 
-/// Appends symbols from `from` on. At each step it copies a prefix of the rest in which single
-/// spaces separate symbols. It stops at the end of the text, or where that prefix is empty or ends
-/// inside a word, and returns the offset from which the caller reads word by word.
+/// Appends symbols from `from` on, a piece at a time: a prefix of the rest, without the white space
+/// before it, in which single spaces separate symbols. It stops at the end of the text, or where
+/// that prefix is empty or ends inside a word, and returns the offset from which the caller reads
+/// word by word.
 fn push_pieces(words: &mut Words, text: &[u8], from: usize) -> Result<usize, AllocError>
     requires allowed { HasOnlyAllowedBytes text.now }
     requires place { from ≤ length text.now }

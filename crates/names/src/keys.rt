@@ -79,7 +79,7 @@ fn eight_bytes(name: &[u8], at: usize) -> u64
     digit(name[at], digit(name[at + 1], digit(name[at + 2], middle)))
 }
 
-/// Returns the number with this lowest byte, and the bytes of `above` above it.
+/// Returns the number with this lowest byte, followed by the bytes of `above`.
 fn digit(byte: u8, above: u64) -> u64
     requires { above < 2 ^ 56 }
     ensures { result ≡ byte + 256 * above }

@@ -91,7 +91,8 @@ impl NameKeys {
         Ok(())
     }
 
-    /// Truncates to the first `count` keys, and frees unused memory, as `give_back` does.
+    /// Truncates to the first `count` keys, and shrinks the list if less than a quarter of its
+    /// capacity is then used (`give_back`).
     pub(crate) fn shrink(&mut self, count: usize)
         requires { count ≤ length self.old.keys.items }
         ensures overflow { self.new.overflow ≡ self.old.overflow }

@@ -95,7 +95,7 @@ impl NameList {
         }
     }
 
-    /// Frees unused memory, as `give_back` does.
+    /// Shrinks each buffer of which less than a quarter is used (`give_back`).
     pub(crate) fn shrink(&mut self)
         ensures { self.new ≡ self.old }
     {

@@ -37,7 +37,7 @@ impl Model for NameTable {
 }
 
 impl NameTable {
-    /// Returns an empty table.
+    /// Returns an empty list.
     pub fn new(alloc: Global) -> NameTable
         ensures { result ≡ [] }
     {
@@ -49,7 +49,7 @@ impl NameTable {
         }
     }
 
-    /// Returns an equal table.
+    /// Returns an equal list.
     ///
     /// Errors: an allocation fails. Cost: the size of all names.
     pub fn copy(&self, alloc: Global) -> Result<NameTable, AllocError>
@@ -76,9 +76,9 @@ impl NameTable {
 
     /// Returns the code of a name, or `None` if it has none.
     ///
-    /// Cost: one pass over the name and at most 32 slots of the table, each of which may compare
-    /// the name; if it is not found there, also the logarithm of the number of names in the
-    /// overflow, in comparisons.
+    /// Cost: one pass over the name, and at most 32 slots of the hash table, at each of which the
+    /// name may be compared with another; if it is not found there, also the logarithm of the
+    /// number of names in the overflow, in comparisons.
     #[inline(always)]
     pub fn find(&self, name: &[u8]) -> Option<usize>
         ensures code { result ≡ code_of self.now name.now }
@@ -122,7 +122,7 @@ impl NameTable {
     ///
     /// Errors: an allocation fails, or there are 2^32 - 1 names already; the list is then
     /// unchanged.
-    /// Cost: that of `find`; the number of names if the table grows.
+    /// Cost: that of `find`; the number of names if the hash table grows.
     pub fn add(&mut self, alloc: Global, name: &[u8]) -> Result<usize, AllocError>
         requires { has_name name.now self.old ≡ false }
         ensures code { IfOk result (λ n. n ≡ length self.old) }
@@ -153,7 +153,7 @@ impl NameTable {
     }
 
     /// Reserves capacity for `more` names, if allocation succeeds, so that adding them makes no new
-    /// table.
+    /// hash table.
     ///
     /// Cost: a constant; if it allocates, the number of names and `more`.
     pub fn reserve(&mut self, alloc: Global, more: usize)
@@ -164,7 +164,8 @@ impl NameTable {
         let _ = self.make_room(alloc, more);
     }
 
-    /// Makes a new table if more than seven eighths of this one would be taken with `more` names.
+    /// Makes a new hash table if `more` further names would take more than seven eighths of this
+    /// one.
     fn make_room(&mut self, alloc: Global, more: usize) -> Result<(), AllocError>
         ensures { self.new ≡ self.old }
     {
@@ -174,8 +175,8 @@ impl NameTable {
         Ok(())
     }
 
-    /// Makes a new table, with capacity for as many further names, or for `more` if that is
-    /// greater.
+    /// Makes a new hash table, with capacity for twice the present number of names, or for `more`
+    /// further names if `more` exceeds that number.
     fn rebuild(&mut self, alloc: Global, more: usize) -> Result<(), AllocError>
         ensures { self.new ≡ self.old }
     {
@@ -185,7 +186,7 @@ impl NameTable {
     }
 
     /// Truncates to the first `len` names. Does not allocate. The slots of removed names stay taken
-    /// until a new table is made.
+    /// until a new hash table is made.
     ///
     /// Cost: constant; if the overflow has a name, the number of removed names.
     pub fn truncate(&mut self, len: usize)
@@ -198,8 +199,9 @@ impl NameTable {
         self.name_list.truncate(len);
     }
 
-    /// Frees unused memory, as `entries::give_back` does. Makes a new table if there are more than
-    /// eight slots for each name, and more than 128 in all; if that allocation fails, the table
+    /// Frees unused memory: shrinks a buffer of which less than a quarter is used
+    /// (`entries::give_back`), and makes a new hash table if there are more than eight slots for
+    /// each name, and more than 128 in all. If an allocation fails, the buffer or the hash table
     /// stays.
     ///
     /// Cost: constant; if memory is freed, the size of all names.

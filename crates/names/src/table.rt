@@ -86,7 +86,7 @@ fn probe(slots: &[Slot], key: u64, step: usize) -> Slot
 }
 
 /// Returns the code of a name, or `None` if it has none. Most short names are in the first slot
-/// that it probes; it then reads no bytes of names.
+/// that it probes; it then reads no bytes of the names in the list.
 #[inline(always)]
 pub(crate) fn search(
     slots: &[Slot],
@@ -194,7 +194,8 @@ fn search_overflow(overflow: &Overflow, name_list: &NameList, name: &[u8]) -> Op
     }
 }
 
-/// Returns whether a code is that of the name with this key. For a short name the key decides.
+/// Returns whether a code is that of the name with this key. Compares the bytes of the names,
+/// unless the name is short and the code has this key.
 fn is_name(name_keys: &NameKeys, name_list: &NameList, code: u32, key: u64, name: &[u8]) -> bool
     requires name_keys { AreNameKeys name_keys.now name_list.now }
     requires key { key ≡ key_of name.now }
@@ -216,7 +217,8 @@ fn has_name_at(name_list: &NameList, code: u32, name: &[u8]) -> bool
     (code as usize) < name_list.len() && name_list.get(code as usize) == name
 }
 
-/// Returns the index of the first free slot for this key, or `None` if the steps meet none.
+/// Returns the index of the first free slot that a search for this key probes, or `None` if it
+/// probes none.
 pub(crate) fn free_slot_index(slots: &[Slot], key: u64) -> Option<usize>
     ensures { IfSome result (IsFree slots.now key) }
 {
@@ -228,8 +230,8 @@ pub(crate) fn free_slot_index(slots: &[Slot], key: u64) -> Option<usize>
     None
 }
 
-/// Makes new slots for the names, with capacity for as many further ones, or for `more` if that is
-/// greater. A name in the overflow stays there.
+/// Makes new slots for the names, with capacity for twice their number, or for `more` further names
+/// if `more` exceeds that number. A name in the overflow stays there.
 pub(crate) fn build_slots(
     alloc: Global,
     name_list: &NameList,
@@ -290,8 +292,8 @@ fn free_slots(alloc: Global, count: usize) -> Result<Vec<Slot>, AllocError>
     Ok(slots)
 }
 
-/// Returns the length of a table of which seven eighths are enough for `count` names and as many
-/// further ones, or `more` if that is greater.
+/// Returns the length of a table of which seven eighths are enough for twice `count` names, or for
+/// `count` and `more` names if `more` exceeds `count`.
 fn slots_for(count: usize, more: usize) -> usize {
     let name_count = count.saturating_add(count.max(more));
     let wanted = name_count

@@ -12,7 +12,8 @@ use Rattle.places.specs.declared.comments.CommentFaultKind.TheVariants.{StrayClo
 use Rattle.places.specs.TokenSpans.{ends_statement}
 
 -- the fault at the offset is of this kind: a `$)` outside a comment; a `$(` inside a comment that
--- begins at `outer`; for the third kind, the text before the offset splits into tokens
+-- begins at `outer`, the comment fault of the text before the offset; for the third kind, that text
+-- splits into tokens
 abbrev pub IsCommentFaultKind : List ℕ → ℕ → CommentFaultKind → Type 0
 IsCommentFaultKind text offset StrayCloser = IsStrayCloser text (runs text) offset
 IsCommentFaultKind text offset (Nested outer) = IsCommentFault (take offset text) outer

@@ -28,7 +28,7 @@ pub record IsTokenSpan (text : List ℕ) (S : Database) (statement token : ℕ) 
   pub written : words text tokens ≡ tokens_of S
   pub at_index : slice_get tokens (token_index S statement token) ≡ Some span
 
--- this token ends a statement
+-- whether this token ends a statement; `${` and `$}` are statements of one token
 abbrev pub ends_statement : Name → Bool
 ends_statement w = name_eq w (codes "$.") || name_eq w (codes "${") || name_eq w (codes "$}")
 

@@ -23,7 +23,7 @@ pub fn comment_fault_kind(text: &[u8], offset: usize) -> CommentFaultKind
     requires { IsCommentFault text.now offset }
     ensures { IsCommentFaultKind text.now offset result }
 {
-    // At the offset is `$(` or `$)`; the second byte tells which.
+    // The text has `$(` or `$)` at the offset; the second byte tells which.
     if text[offset + 1] == b')' {
         return CommentFaultKind::StrayCloser;
     }

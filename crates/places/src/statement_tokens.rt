@@ -54,8 +54,8 @@ pub fn token_span_within(
     rest.get(token - 1).copied()
 }
 
-/// Returns the index in `spans` of the first token of a statement, counted from 1, or the number of
-/// tokens if there are fewer statements.
+/// Returns the index in `spans` of the first token of the statement with number `statement`, from
+/// 1, or the number of tokens if there are fewer statements.
 ///
 /// Cost: the number of tokens before it.
 pub(crate) fn first_token_index(text: &[u8], spans: &[Span], statement: usize) -> usize
@@ -76,7 +76,8 @@ pub(crate) fn first_token_index(text: &[u8], spans: &[Span], statement: usize) -
     spans.len()
 }
 
-/// Returns whether this token ends a statement.
+/// Returns whether this token ends a statement: `$.`, or `${` or `$}`, which are statements of one
+/// token.
 pub(crate) fn ends_statement(word: &[u8]) -> bool
     ensures { result ≡ ends_statement word.now }
 {

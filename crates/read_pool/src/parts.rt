@@ -17,12 +17,13 @@ use std::thread::{Threads, join};
 /// `workers` threads.
 ///
 /// A text of two MiB or more is cut into at most `workers` parts, of a MiB or more on average; each
-/// cut is where a statement seems to end. If a part does not read, or an allocation fails, the
-/// calling thread reads the whole text. So no answer but `Memory` depends on the number of workers
-/// or on the cuts.
+/// cut is where a statement seems to end. If a part does not read as statements, or an allocation
+/// fails, the calling thread reads the whole text. So no answer but `Memory` depends on the number
+/// of workers or on the cuts.
 ///
 /// Errors: those of `read`. Cost: the size of the text, divided among the workers; if a part does
-/// not read (because the text is refused, or a cut is in a comment), that of `read` as well.
+/// not read as statements (because the text does not, or a cut is in a comment), that of `read` as
+/// well.
 pub fn read_in_parts<R: Threads + Sync>(
     rt: &R,
     alloc: Global,
@@ -54,7 +55,7 @@ pub fn read_in_parts<R: Threads + Sync>(
 }
 
 /// Returns the statements that the text reads as, read in `parts` parts, or `None` if a part does
-/// not read or an allocation fails.
+/// not read as statements or an allocation fails.
 #[cycle(parts)]
 fn read_parts<R: Threads + Sync>(
     rt: &R,

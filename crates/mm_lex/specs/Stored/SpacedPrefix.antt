@@ -1,11 +1,12 @@
--- A prefix of a text in which single spaces separate symbols; a single space may precede the first.
+-- A prefix of a text in which single spaces separate symbols; a single space may precede the first,
+-- and the last may be only the beginning of a token.
 -- Source: this project's choice; such symbols are copied at once.
 -- The code compares many bytes at a time; the definition one byte and the next.
 use Rattle.std.specs.Prelude.{ℕ, zero, suc, Bool, true, ◌||◌, ◌&&◌, ◌==◌, if◌then◌else◌, List, [], ◌∷◌, nat_lt, nat_le}
 use Rattle.std.specs.Simd.Lanes.{zip2}
 
--- the prefix ends at a byte below the space (32), at a `$` (36), or at a space that is followed by
--- a byte up to `$`
+-- whether the prefix ends at the byte b, which `next` follows: b is below the space (32), is a `$`
+-- (36), or is a space and `next` is at most `$`
 abbrev pub ends_between : ℕ → ℕ → Bool
 ends_between b next = nat_lt b 32 || (b == 36) || (nat_le b 32 && nat_le next 36)
 

@@ -53,7 +53,7 @@ pub record IsNameKey (a : NameKeys) (x : Name) (k : ℕ) : Type 0 where
 abbrev pub AreNameKeys : NameKeys → List Name → Type 0
 AreNameKeys a names = (k : ℕ) → k < length names → IsNameKey a (name_at names k) k
 
--- the names in the overflow of `a` are in that of `b` too
+-- each code that has `IN_OVERFLOW` in the place of its key in `a` has it in `b` too
 abbrev pub OverflowGrows : NameKeys → NameKeys → Type 0
 OverflowGrows a b = (k : ℕ) → get_or b.keys.items k 0 ≢ IN_OVERFLOW → get_or a.keys.items k 0 ≢ IN_OVERFLOW
 
