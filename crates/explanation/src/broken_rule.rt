@@ -137,9 +137,9 @@ fn explain_violation(
             symbol_index,
             earlier_position,
         } => {
-            explain_earlier(lines, context, stmt, symbol_index, earlier_position);
+            explain_symbol_conflict(lines, context, stmt, symbol_index, earlier_position);
         }
-        RuleViolation::LabelConflict { earlier_position } => explain_label(
+        RuleViolation::LabelConflict { earlier_position } => explain_label_conflict(
             lines,
             context,
             stmt,
@@ -196,7 +196,7 @@ fn explain_twice(
 }
 
 /// Writes that another statement uses the symbol, and where.
-fn explain_earlier(
+fn explain_symbol_conflict(
     lines: &mut Lines<'_>,
     context: &RuleContext<'_>,
     stmt: &Stmt,
@@ -208,7 +208,12 @@ fn explain_earlier(
 }
 
 /// Writes that another statement uses the label, and where.
-fn explain_label(lines: &mut Lines<'_>, context: &RuleContext<'_>, stmt: &Stmt, other: usize) {
+fn explain_label_conflict(
+    lines: &mut Lines<'_>,
+    context: &RuleContext<'_>,
+    stmt: &Stmt,
+    other: usize,
+) {
     push_token_place_and_colon(lines, context, context.statement, 1);
     lines.push(label_of(stmt));
     push_other_use(lines, context, label_of(stmt), other);

@@ -26,14 +26,14 @@ use unproved::LegalDatabase;
 /// Writes the rule of proof code that a proof breaks, or the first fault of its run.
 pub(crate) fn explain_proof(alloc: Global, lines: &mut Lines<'_>, text: &[u8], statement: usize) {
     match read(alloc, text) {
-        Ok(statements) => explain_wrong(alloc, lines, text, statements, statement),
+        Ok(statements) => explain_unproved_in(alloc, lines, text, statements, statement),
         Err(ReadFault::Memory) => lines.fail(),
         Err(_) => {}
     }
 }
 
 /// Writes why the proof of the `$p` at a position is wrong or unfinished, given the statements parsed from the text.
-fn explain_wrong(
+fn explain_unproved_in(
     alloc: Global,
     lines: &mut Lines<'_>,
     text: &[u8],

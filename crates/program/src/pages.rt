@@ -10,7 +10,7 @@ use bytes::Bytes;
 use commands::SiteRequest;
 use folders::Folder;
 use library::{Cause, Library, Verdict};
-use sites::{Site, SiteFault, write_site};
+use sites::{SiteFault, SiteSources, write_site};
 use std::alloc::{AllocError, Global};
 use std::io::{Read, Write};
 use std::mem::forget;
@@ -126,7 +126,7 @@ fn write_site_files<O: Write, F: Write, S: Folder>(
     folder: &mut S,
 ) -> Result<u8, Fault> {
     let Streams { output, stderr } = streams;
-    let site = Site { text, library };
+    let site = SiteSources { text, library };
     match write_site(alloc, &site, path, folder, stderr) {
         Ok(()) => Ok(0),
         Err(SiteFault::Memory) => Err(Fault::Memory(AllocError)),

@@ -4,7 +4,7 @@ ghost use Rattle.frame.specs.FrameOf.{HasAssertion};
 ghost use Rattle.mm_read.specs.declared.stmt.Stmt.{Stmt as Statement};
 ghost use Rattle.scope.specs.Active.{bares};
 
-use crate::site::{Site, SiteFault};
+use crate::site::{SiteFault, SiteSources};
 use cross_references::CrossReferences;
 use mm_lex::Span;
 use mm_read::Stmt;
@@ -15,7 +15,7 @@ use steps::{essential_table, proof_table};
 /// The library and the tables that pages are made from.
 #[derive(Drop)]
 pub struct PageSources<'a> {
-    pub site: &'a Site<'a>,
+    pub site: &'a SiteSources<'a>,
     pub references: CrossReferences,
     /// For each statement, in order, the span of its description in the text.
     pub descriptions: Vec<Option<Span>>,
@@ -87,7 +87,7 @@ fn push_assertion_page(
     let axioms = positions_at(alloc, sources.references.axioms.as_slice(), index)?;
     let cited_by = positions_at(alloc, sources.references.cited_by.as_slice(), index)?;
     let library = sources.site.library;
-    let assertion = PageContents {
+    let contents = PageContents {
         statements: library.statements(),
         frames: library.frames(),
         at,
@@ -98,7 +98,7 @@ fn push_assertion_page(
             description: description_at(sources, index),
         },
     };
-    Ok(write_site_page(alloc, page, &assertion)?)
+    Ok(write_site_page(alloc, page, &contents)?)
 }
 
 /// Returns the positions of the list at an index, or an empty list if there is none.

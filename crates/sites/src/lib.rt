@@ -9,4 +9,4 @@ mod assertion_page;
 mod progress;
 mod site;
 
-pub use site::{Site, SiteFault, write_site};
+pub use site::{SiteFault, SiteSources, write_site};

@@ -19,7 +19,7 @@ use std::str::from_utf8;
 
 /// The sources of a site: a library, and the text that it was read from.
 #[derive(Drop)]
-pub struct Site<'a> {
+pub struct SiteSources<'a> {
     /// The text. The description of an assertion is the last comment between the statement before
     /// it and its first token. No clause requires that the text reads as the library's statements.
     pub text: &'a [u8],
@@ -65,7 +65,7 @@ impl From<AskFault> for SiteFault {
 /// is in memory at a time.
 pub fn write_site<F: Write, S: Folder>(
     alloc: Global,
-    site: &Site<'_>,
+    site: &SiteSources<'_>,
     path: &str,
     folder: &mut S,
     progress: &mut F,
@@ -123,7 +123,7 @@ fn write_file<S: Folder>(
 /// Writes a page for each assertion.
 fn write_pages<F: Write, S: Folder>(
     alloc: Global,
-    site: &Site<'_>,
+    site: &SiteSources<'_>,
     folder: &mut S,
     progress: &mut F,
 ) -> Result<(), SiteFault>

@@ -80,7 +80,7 @@ fn serves<R: Wait + Clock>(
     desk.submit(rt, leader, text_entry(alloc, 1, b"$c |- $. p $a |- $.")?)?;
     Ok(
         is_added_by_all(rt, desk, 1)?
-            && lists_only_axiom(rt, desk)?
+            && lists_axiom_and_agrees(rt, desk)?
             && has_no_node(rt, alloc, desk, 3)?
             && has_text_after_restart(rt, desk)?,
     )
@@ -112,7 +112,10 @@ fn stops<R: Threads + Wait>(
 }
 
 /// Returns whether node 1 lists the axiom p alone, and the libraries of nodes 0 and 2 have the same statements as its own.
-fn lists_only_axiom<R: Wait>(rt: &R, desk: &Desk<OpenGate, EntryKeep>) -> Result<bool, StepFault> {
+fn lists_axiom_and_agrees<R: Wait>(
+    rt: &R,
+    desk: &Desk<OpenGate, EntryKeep>,
+) -> Result<bool, StepFault> {
     let list = desk.list(rt, 1)?;
     let listed = match list.as_slice() {
         [only] => !only.proved && only.label.as_bytes() == b"p".as_slice(),
@@ -147,7 +150,7 @@ fn has_stopped<R: Threads + Wait>(
             && desk.submit(rt, 0, text_entry(alloc, 2, b"")?) == Err(StepFault::Stopped)
             && desk.restart(rt, 0) == Err(StepFault::Stopped)
             && matches!(cluster.stop(rt), Err(StepFault::Stopped))
-            && lists_only_axiom(rt, desk)?,
+            && lists_axiom_and_agrees(rt, desk)?,
     )
 }
 

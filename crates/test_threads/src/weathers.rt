@@ -60,14 +60,14 @@ fn nodes_answer_alike<R: Threads + Wait + Clock + Copy + Send + Sync + Drop + 's
     alloc: Global,
 ) -> Result<bool, StepFault> {
     let mut library = Library::new(alloc);
-    let served = nodes_answer_like_new(rt, alloc, &mut library);
+    let served = nodes_answer_like_filled(rt, alloc, &mut library);
     // An explicit `drop` is proved once for each type; a drop at the end of the scope would be proved here.
     drop(library);
     served
 }
 
 /// Applies the texts to this new library, and returns whether each of three nodes then answers like it.
-fn nodes_answer_like_new<R: Threads + Wait + Clock + Copy + Send + Sync + Drop + 'static>(
+fn nodes_answer_like_filled<R: Threads + Wait + Clock + Copy + Send + Sync + Drop + 'static>(
     rt: &R,
     alloc: Global,
     library: &mut Library,
@@ -238,18 +238,18 @@ fn fills_its_gap<R: Threads + Wait + Clock + Copy + Send + Sync + Drop + 'static
     };
     let weathers = settable_weathers(alloc, &first_two_setting, &third_setting)?;
     let mut cluster = start_three_nodes_with_open_gate(rt, alloc, Weights::equal(3), weathers)?;
-    learns_and_stops(rt, alloc, &mut cluster, &first_two_setting, &third_setting)
+    applies_and_stops(rt, alloc, &mut cluster, &first_two_setting, &third_setting)
 }
 
 /// Returns the same for the nodes of this cluster, which is stopped afterwards.
-fn learns_and_stops<R: Threads + Wait + Clock>(
+fn applies_and_stops<R: Threads + Wait + Clock>(
     rt: &R,
     alloc: Global,
     cluster: &mut Cluster<OpenGate, EntryKeep>,
     first_two_setting: &AtomicU8,
     third_setting: &AtomicU8,
 ) -> Result<bool, StepFault> {
-    let filled = learns_all(rt, alloc, cluster, first_two_setting, third_setting);
+    let filled = applies_all(rt, alloc, cluster, first_two_setting, third_setting);
     cluster.stop(rt)?;
     filled
 }
@@ -278,7 +278,7 @@ fn weather_of(setting: &Arc<AtomicU8>) -> Result<SettableWeather, AllocError> {
 }
 
 /// Returns whether node 2 of the cluster applies all texts.
-fn learns_all<R: Wait + Clock>(
+fn applies_all<R: Wait + Clock>(
     rt: &R,
     alloc: Global,
     cluster: &Cluster<OpenGate, EntryKeep>,
@@ -286,11 +286,11 @@ fn learns_all<R: Wait + Clock>(
     third_setting: &AtomicU8,
 ) -> Result<bool, StepFault> {
     let desk = cluster.desk()?;
-    learns_at(rt, alloc, &desk, first_two_setting, third_setting)
+    applies_at(rt, alloc, &desk, first_two_setting, third_setting)
 }
 
 /// Returns the same, with a desk of the cluster.
-fn learns_at<R: Wait + Clock>(
+fn applies_at<R: Wait + Clock>(
     rt: &R,
     alloc: Global,
     desk: &Desk<OpenGate, EntryKeep>,
@@ -309,9 +309,9 @@ fn learns_at<R: Wait + Clock>(
     thread::sleep(rt, Duration::from_millis(TRANSIT_MILLIS));
     first_two_setting.store(PASS, Ordering::SeqCst);
     // Node 2 applies no text before the first, which it has not learned yet.
-    let lacks_fifth = desk.status(rt, 2, 7, 5)?.is_none();
+    let fifth_is_undecided = desk.status(rt, 2, 7, 5)?.is_none();
     submit_text(rt, alloc, desk, 6, b"$c a $.")?;
-    Ok(decided && more && lacks_fifth && is_added_by_all(rt, desk, 6)?)
+    Ok(decided && more && fifth_is_undecided && is_added_by_all(rt, desk, 6)?)
 }
 
 /// How many milliseconds the test waits for hints that are on their way.
