@@ -17,7 +17,8 @@ use Rattle.subst.specs.RemainingSymbols.{HasListed}
 abbrev pub AreHypothesesOf : Database → List Name → ℕ → List Hypothesis → Type 0
 AreHypothesesOf S names a hs = (s : Stmt) → stmt_at S a ≡ Some s → (typecodes : List ℕ) × AreNumberedHypotheses S names (hypotheses (before S a) s) typecodes hs
 
--- the symbol is listed for each long `$e` of the assertion at a that has it
+-- the symbol x is listed for each long `$e` of the assertion at a that has it (`keys` has a number
+-- for each listed pair of a position and a symbol)
 abbrev pub IsListed : Database → List Name → ℕ → ℕ → List ℕ → Type 0
 IsListed S names a x keys = (s : Stmt) → stmt_at S a ≡ Some s → (q : ℕ) → In q (long_essentials S a s (name_at names x)) → (x < 2 ^ 32) × In (key_of q x) keys
 

@@ -28,7 +28,8 @@ pub record AreResultRanges (symbols : List ℕ) (images : List (ℕ × SymbolRan
   pub few : length symbols ≤ weight
   pub light : weight ≤ weight_limit
 
--- besides, the buffer begins with the symbols that it had when facts were last recorded in the cache
+-- besides, the buffer begins with `over`, the symbols that it had when `DisjointCache` last
+-- recorded facts
 pub record AreHeld (over symbols : List ℕ) (images : List (ℕ × SymbolRange)) (stack saved : List SymbolRange) (weight : ℕ) : Type 0 where
   pub kept : AreResultRanges symbols images stack saved weight
   pub recorded : (more : List ℕ) × (symbols ≡ over ++ more)

@@ -24,7 +24,7 @@ abbrev pub StepsByNumber : Bool → Database → ℕ → List Name → Item → 
 StepsByNumber true S at names item old new = RunsItem S at (named names old) item (named names new) × AreNamed names new
 StepsByNumber false S at names item old new = (next : State) → RunsItem S at (named names old) item next → weight_limit < next.weight
 
--- a label with this meaning was cited, and nothing was saved, or it cannot be cited within the limit
+-- a label with this meaning was cited, which saves nothing; or it cannot be cited within the limit
 abbrev pub HasCited : Database → ℕ → List Name → LabelEntry → Results ℕ → Results ℕ → Bool → Type 0
 HasCited S at names entry old new ok = ((label : Name) → IsEntry S at label entry → StepsByNumber ok S at names (Cite label) old new) × (IsTrue ok → new.saved ≡ old.saved)
 
@@ -34,7 +34,8 @@ HasCited S at names entry old new ok = ((label : Name) → IsEntry S at label en
 abbrev pub without_cached : ℕ → Results ℕ → Results ℕ
 without_cached n st = record { stack = st.stack; saved = drop n st.saved; weight = st.weight }
 
--- nothing is cached for the label, or the result of its citation, which is the same over any results and pops none
+-- e is empty, so nothing is cached for the label; or citing the label pushes e onto any stack, and
+-- pops nothing
 abbrev pub IsCached : Database → ℕ → List Name → LabelEntry → List ℕ → Type 0
 IsCached S at names entry e = 0 < length e → (label : Name) → IsEntry S at label entry → (stack : List Expr) → Cites S at label stack stack (decode names e)
 

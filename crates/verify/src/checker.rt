@@ -25,7 +25,8 @@ use std::alloc::{AllocError, Global};
 use std::marker::Model;
 use subst::RemainingSymbols;
 
-/// A checker keeps the memory that proofs up to this size need: 1 MB for this many symbols.
+/// `Checker::shrink` keeps the memory that proofs up to this size need (`Checker::largest` defines
+/// the size): 1 MB for this many symbols.
 const KEPT_SIZE: usize = 262_144;
 
 /// A verifier that reuses its buffers from proof to proof. Contracts see the lists that it keeps, by which assertions are cited,
@@ -134,9 +135,9 @@ impl Checker {
     ///
     /// Errors: an allocation fails, or the results would exceed the limit set by `set_symbol_limit`.
     /// Cost: each label is looked up once; a recall and a mark are one step; a citation costs the
-    /// lengths of its result and of those that it compares with a `$e`, and that of the disjoint
-    /// variable condition; as long as the long lists of an assertion are not kept, also that of
-    /// `Frames::fill_for_citing`. Source: Metamath, 4.2.6 and appendix B.
+    /// lengths of its result and of the results that it compares with a `$e`, and that of the
+    /// disjoint variable condition; if the assertion has long lists (`CitationCache`) that are not
+    /// kept yet, also that of `Frames::fill_for_citing`. Source: Metamath, 4.2.6 and appendix B.
     pub fn check(&mut self, frames: &Frames, at: usize, items: &Items) -> Result<Answer, AllocError>
         requires provable { (s : Statement) × IsProvable frames.now.statements at s }
         requires kept { IsCacheFor frames.now.statements frames.now.names self.old }
@@ -212,8 +213,8 @@ impl Checker {
         }
     }
 
-    /// Returns whether the tokens write a right proof, in compressed form, of the `$p` at that position, which has many
-    /// mandatory hypotheses.
+    /// Returns whether the tokens write a right proof, in compressed form, of the `$p` at that
+    /// position. The `$p` has many mandatory hypotheses, which are read through a view.
     ///
     /// Errors: an allocation fails, or the results would exceed the limit set by `set_symbol_limit`.
     #[cold]
@@ -263,8 +264,8 @@ pub fn check(alloc: Global, frames: &Frames, at: usize, items: &Items) -> Result
     Checker::new(alloc).check(frames, at, items)
 }
 
-/// Returns whether the items with these numbers, over a table of the meanings of the labels, are a right proof of the `$p` at
-/// that position.
+/// Returns whether the items with these numbers are a right proof of the `$p` at that position. The
+/// table has the meaning of each label of the proof.
 ///
 /// Errors: an allocation fails.
 #[inline(never)]
@@ -285,8 +286,9 @@ fn check_listed(
     check_numbers(frames, at, None, table, numbers, buffers)
 }
 
-/// Returns whether the items with these numbers, over a view of the mandatory hypotheses, if there is one, and a table of the
-/// meanings of the other labels, are a right proof of the `$p` at that position.
+/// Returns whether the items with these numbers are a right proof of the `$p` at that position. The
+/// table has the meanings of all labels or, if there is a view of the mandatory hypotheses, of the
+/// other labels.
 ///
 /// Errors: an allocation fails.
 #[inline(always)]

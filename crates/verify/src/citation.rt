@@ -35,7 +35,7 @@ pub struct ProofContext<'a> {
 /// The buffers of a run over the items of a proof.
 #[derive(Drop)]
 pub struct Buffers {
-    /// For the long lists of a cited assertion, if they are not kept.
+    /// For the long lists (`CitationCache`) of a cited assertion, if they are not kept.
     pub frame_buffers: FrameBuffers,
     /// The long lists that are kept, and facts on pairs of variables.
     pub kept: CitationCache,
@@ -241,8 +241,8 @@ fn cite_entry(
 }
 
 /// Runs one item, by its number, and returns whether it can be done. 0 is a mark; the numbers from
-/// 1 on are the labels of the table, and those after them the results that were marked. Caches the
-/// result of a citation that pops no results, for its label.
+/// 1 on cite the labels of the table, and those after them recall the results that were marked. If
+/// a citation pops no results, its result is cached for its label.
 ///
 /// Errors: an allocation fails.
 #[inline(always)]

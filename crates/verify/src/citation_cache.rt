@@ -1,5 +1,8 @@
-//! A cache for the proofs of a text: the long lists of assertions that are cited often, and facts on pairs of variables that
-//! were found when such lists were made.
+//! A cache for the proofs of a text: the long lists of assertions that are cited often, and facts
+//! on pairs of variables that were found when such lists were made.
+//!
+//! An assertion has long lists if its mandatory hypotheses and groups are too many to be stored
+//! whole with it (`Frames::whole_view`). `Frames::fill_for_citing` makes them for a citation.
 
 ghost use Rattle.std.specs.Prelude.{◌≡◌, ◌<◌, ◌==◌, ◌++◌, ◌∷◌, [], ℕ, List, length, map, true, get_or, slice_get, Some, IfOk, IfSome, OnOk};
 ghost use Rattle.std.specs.List.{list_all, list_any};
@@ -26,8 +29,8 @@ use std::marker::Model;
 /// they are kept.
 const CITATIONS_BEFORE_KEEPING: usize = 4;
 
-/// If the lists and counts that are kept would be more numbers of 32 bits than this, all of them are removed before more are
-/// added.
+/// The largest number of 32-bit numbers that the kept lists and counts may take. If more would be
+/// kept, all that is kept is removed first.
 const MAX_NUMBERS: usize = 1_048_576;
 
 /// The part of `MAX_NUMBERS` that the count of an assertion's citations takes.
@@ -132,7 +135,7 @@ fn copy_hypotheses(
     Ok(())
 }
 
-/// Appends the groups, except those whose pairs are all recorded to be in others.
+/// Appends the groups, except those whose pairs are all recorded to be in groups appended before.
 fn copy_groups(
     from: &Groups<'_>,
     pairs: &mut PairPlaces,

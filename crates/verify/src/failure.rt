@@ -35,8 +35,9 @@ pub enum Failure {
     },
 }
 
-/// Runs the items with these numbers, over a view of the mandatory hypotheses, if there is one, and a table of the meanings of
-/// the other labels, up to the first that cannot be done, and returns how many were done.
+/// Runs the items with these numbers up to the first that cannot be done, and returns how many were
+/// done. The table has the meanings of all labels or, if there is a view of the mandatory
+/// hypotheses, of the other labels.
 ///
 /// Errors: an allocation fails, or the results would exceed the limit set by `Results::set_symbol_limit`.
 #[inline(always)]

@@ -17,7 +17,7 @@ use mm_lex::Words;
 use proof_code::Heading;
 use std::alloc::AllocError;
 
-/// The meaning of a label at a statement.
+/// The meaning of a label for a proof at a position.
 #[derive(Clone, Copy, Drop)]
 pub enum LabelEntry {
     /// A hypothesis that is active there, by position.
@@ -28,7 +28,8 @@ pub enum LabelEntry {
     Nothing,
 }
 
-/// Returns the meaning of a label at the statement, by the position of the statement that has the label.
+/// Returns the meaning, for a proof at the position `at`, of the label that the statement at
+/// `position` has; `None` stands for a label that no statement has.
 fn entry_of(frames: &Frames, at: usize, position: Option<usize>) -> LabelEntry
     requires legal { HasLegalProperties frames.now.statements frames.now.names }
     requires place { (1 ≤ at) × (at ≤ length frames.now.statements) }
@@ -44,7 +45,7 @@ fn entry_of(frames: &Frames, at: usize, position: Option<usize>) -> LabelEntry
     }
 }
 
-/// Fills the table with the meaning of each label at the statement.
+/// Fills the table with the meaning of each label for a proof at the position `at`.
 ///
 /// Errors: an allocation fails. Cost: that of looking each label up.
 pub fn fill_table(
@@ -129,8 +130,8 @@ fn is_among(entry: LabelEntry, hypotheses: &[u32]) -> bool
     }
 }
 
-/// Appends the meaning at the statement of each label in the heading of a compressed proof, or returns `false` if one of them
-/// is that of a mandatory hypothesis.
+/// Appends the meaning of each label that a compressed proof at the position `at` lists between its
+/// parentheses (its heading). Returns `false` if one of them is that of a mandatory hypothesis.
 ///
 /// Errors: an allocation fails. Cost: that of looking each label up.
 #[inline(always)]

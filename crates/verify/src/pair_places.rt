@@ -4,10 +4,10 @@ use entries::{Hypotheses, Hypothesis};
 use std::alloc::{AllocError, Global};
 use std::collections::BTreeMap;
 
-/// The most mandatory hypotheses of an assertion whose pairs are recorded.
+/// The largest number of mandatory hypotheses of an assertion whose pairs are recorded.
 const MAX_HYPOTHESES: usize = 512;
 
-/// The most variables of a list whose pairs are recorded.
+/// The largest number of variables of a list whose pairs are recorded.
 const MAX_LISTED: usize = 256;
 
 /// A place of two variables: the index of a list that has both, and their indexes in it.

@@ -24,7 +24,7 @@ use frame::Frames;
 use proof_code::Items;
 use std::alloc::{AllocError, Global};
 
-/// The most nodes of a derivation that is returned.
+/// The largest number of nodes of a derivation that is returned.
 pub const MAX_NODES: usize = 65_536;
 
 /// The greatest depth of a derivation that is returned; a lone node has depth 1.
@@ -68,6 +68,8 @@ fn add(plan: &mut TreePlan, node: Node) -> Result<(), AllocError>
 }
 
 /// Cites a label by its meaning. Returns `false` if it cannot be cited.
+///
+/// Errors: an allocation fails.
 fn cite(frames: &Frames, entry: LabelEntry, plan: &mut TreePlan) -> Result<bool, AllocError>
     requires plan { IsPlan plan.old }
     requires entry { (at : ℕ) × (label : Name) × IsEntry frames.now.statements at label entry }

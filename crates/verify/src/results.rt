@@ -35,7 +35,8 @@ use subst::{
 };
 
 /// The results of a proof so far, with their symbols in one buffer, and the images that were read
-/// from the last of them. In the code the `place` of a result is its range in the buffer.
+/// from the last of them. In this file the `place` of a result is its range in the buffer.
+/// (`Frames::places` returns other places: where each symbol of an expression occurs.)
 #[derive(Drop)]
 pub struct Results {
     /// The symbols of all results.
