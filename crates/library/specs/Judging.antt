@@ -50,7 +50,7 @@ abbrev pub Extends : Database → Database → Option Cause → Database → Typ
 Extends L T None new = Good (L ++ T) × (new ≡ L ++ T)
 Extends L T (Some cause) new = IsFault L T cause × (new ≡ L)
 
--- the reader returns the statements that a text writes, or a fault that it has
+-- the reader returns the statements of a text, or a fault that the text has
 abbrev pub ReadsTexts : (List ℕ → Result (Vec Stmt Global) ReadFault → Type 0) → Type 0
 ReadsTexts returns =
     (text : List ℕ) (r : Result (Vec Stmt Global) ReadFault) → returns text r

@@ -46,8 +46,9 @@ IsDecision Added = ⊤
 IsDecision (Refused cause) = ⊤
 IsDecision verdict = ⊥
 
--- the judging of a text raises the count of steps by at most three for each statement, and not at all if the text does not
--- read (the count is that of the statements that are given to the rules and frames)
+-- the judging of a text raises the count of steps by at most three for each statement (in the code
+-- by at most two), and not at all if the text does not read (the count is that of the statements
+-- that are given to the rules and frames)
 pub record HasFewStepsForText (submission : Submission) (before after : ℕ) : Type 0 where
   pub read : (T : Database) → Reads submission.text T → after ≤ before + 3 * length T
   pub unread : ((T : Database) → ¬ Reads submission.text T) → after ≡ before

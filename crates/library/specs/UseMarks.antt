@@ -55,7 +55,8 @@ ItemsCiteMarked S items marks = (a : ℕ) × IsMarked marks a × ItemsCite S ite
 abbrev pub ProofCitesMarked : Database → ℕ → List Bool → Type 0
 ProofCitesMarked S at marks = (a : ℕ) × IsMarked marks a × Cites S at a
 
--- the tokens before `)`: those that a compressed proof lists after `(`, or all of a normal one
+-- the tokens before `)`: the `(` of a compressed proof and the labels that it lists, or all tokens
+-- of a normal proof
 abbrev pub listed_in : List Name → List Name
 listed_in [] = []
 listed_in (token ∷ tokens) = if name_eq token right_parenthesis then [] else token ∷ listed_in tokens

@@ -80,13 +80,14 @@ pub(crate) fn add_all(statements: &[Stmt], tables: &mut Tables, steps: &mut Step
     AddOutcome { broken, proved_to }
 }
 
-/// Adds the statements as `add_all` does. If they are the first of a library, there are at least two workers and
-/// `count_ahead` returns more than 0, another thread meanwhile adds so many of them to tables of its own and judges
-/// their proofs. Half of the workers, less one but at least one, take part in that, so that a processor is left to the
-/// calling thread. The position returned as `proved_to` is the last of that part if its proofs are found right, else 0.
+/// Adds the statements as `add_all` does. If they are the first of a library, the workers are at
+/// least two, and `count_ahead` returns n > 0, then another thread meanwhile adds the first n of
+/// them to tables of its own and judges the proofs of this part. Half of the workers less one, but
+/// at least one, judge them, so that a processor is left to the calling thread. In this case
+/// `proved_to` is n if these proofs are found right, else 0.
 ///
-/// Cost: that of `add_all`, and meanwhile that of `verify_ahead`, for which `steps` counts each statement of that part at
-/// most once more.
+/// Cost: that of `add_all`, and meanwhile that of `verify_ahead`, for which `steps` counts each
+/// statement of that part at most once more.
 pub(crate) fn add_all_verifying<G: Gate + Sync, R: Threads + Sync>(
     parallel: &Parallel<'_, G, R>,
     statements: &[Stmt],
@@ -131,9 +132,9 @@ pub(crate) fn add_all_verifying<G: Gate + Sync, R: Threads + Sync>(
     added
 }
 
-/// Returns the length of the part that is judged ahead: the shortest prefix with more than about five sixteenths of the
-/// statements (five for each full sixteen), and more than `AHEAD_THRESHOLD`, at whose end no block is open; 0 if there is
-/// none.
+/// Returns the length of the part that is judged ahead: the shortest prefix at whose end no block
+/// is open, and which has more than `AHEAD_THRESHOLD` statements and more than five for each full
+/// sixteen of all statements; 0 if there is none.
 fn count_ahead(statements: &[Stmt]) -> usize
     ensures { result ≤ length statements.now }
 {

@@ -70,6 +70,7 @@ impl CheckedDatabase {
         requires frames { frames.statements ≡ bares statements.items }
         ensures { result ≡ statements.items }
     {
+        // `extend` rolls back to the marked state.
         rules.mark();
         CheckedDatabase {
             statements,

@@ -1,4 +1,5 @@
-//! The theorems that use a statement: the `$p` that cite it, and those that cite one which rests on it.
+//! The theorems that use a statement: the `$p` that cite it or, if all users are asked for, that
+//! rest on it.
 ghost use Rattle.std.specs.Prelude.{◌≡◌, ◌≤◌, ◌↔◌, ◌++◌, List, true, false, Some, length, map, take, IfOk};
 ghost use Rattle.frame.specs.AtPosition.{HasLabelsOnce};
 ghost use Rattle.frame.specs.FrameOf.{hypotheses};
@@ -228,7 +229,8 @@ fn is_marked_number(
     is_marked(label_marks, Some(number - mandatory_count))
 }
 
-/// Returns whether one of the positions is marked.
+/// Returns whether one of the positions is marked. If `marks` has the flags of labels, `positions`
+/// are the numbers of items: a number that cites a label is the position of its flag, from 1.
 fn has_marked(positions: &[u32], marks: &[bool]) -> bool
     ensures { result ≡ list_any (λ position. is_marked marks.now (Some position)) positions.now }
 {

@@ -10,9 +10,9 @@ use crate::verdict::Cause;
 use mm_read::{ReadFault, Stmt};
 use std::alloc::AllocError;
 
-/// Returns the statements of the text if it has at most `MAX_BYTES` bytes, it reads as statements, and the charter
-/// forbids its author none of these. Otherwise returns the cause of its refusal, which does not depend on the
-/// statements of the library. `read` returns the statements that a text writes.
+/// Returns the statements of the text if it has at most `MAX_BYTES` bytes, it reads as statements,
+/// and the charter forbids its author none of these. Otherwise returns a cause of its refusal that
+/// does not depend on the statements of the library. `read` returns the statements of a text.
 ///
 /// Errors: an allocation fails. Cost: that of reading, and the number of statements.
 pub(crate) fn read_text<T: Fn(&[u8]) -> Result<Vec<Stmt>, ReadFault>>(
@@ -38,8 +38,8 @@ pub(crate) fn read_text<T: Fn(&[u8]) -> Result<Vec<Stmt>, ReadFault>>(
     }
 }
 
-/// Returns whether the author may declare constants and axioms, and have a charter of his added: there is no charter in
-/// force, or it names him.
+/// Returns whether the author may declare constants and axioms, and have a charter added: there is
+/// no charter in force, or it names the author.
 pub(crate) fn may_declare(charter: &Option<Names>, author: u64) -> bool
     ensures { result ≡ may_declare charter.now author }
 {

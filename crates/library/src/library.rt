@@ -123,11 +123,13 @@ impl Library {
 
     /// Applies the next entry as `apply` does, its text read and its proofs judged in parallel, by `workers` at most.
     ///
-    /// Each worker passes the gate before each proof. The jobs (`Place::Job`) are the `$p` of the text, in order,
-    /// counted from 0. If the proofs of a first part of a long text are judged ahead, the jobs are first the `$p` of
-    /// that part; then those of the rest, again counted from 0, or all `$p` of the text if the first part was not found
-    /// to be proved. Proofs for which a worker lacks memory are judged again (`judge_all`). The verdict does not depend
-    /// on the number of workers; whether an allocation fails may.
+    /// Each worker passes the gate before each proof that is dealt to it (at `Place::Job` of
+    /// `verify_pool`). The jobs are the `$p` of the text, in order, counted from 0. If the proofs
+    /// of a first part of a long text are judged ahead, the jobs are first the `$p` of that part;
+    /// then those of the rest, again counted from 0, or all `$p` of the text if the first part was
+    /// not found to be proved. Proofs for which a worker lacks memory are judged again
+    /// (`judge_all`). The verdict does not depend on the number of workers; whether an allocation
+    /// fails may.
     ///
     /// Errors: those of `apply`; `AllocError` may also be returned if a proof is heavy, that is, if its results have
     /// more symbols than a worker holds (`MAX_WORKER_SYMBOLS`), and the gate keeps such proofs out
@@ -167,10 +169,10 @@ impl Library {
         )
     }
 
-    /// Applies the next entry, where `read` returns the statements that a text writes, `add` adds statements to the
-    /// tables, and `first_wrong` returns the index of the first proof that is not right, or `None` if each is right.
-    /// The statements of a text are added if the whole list is good with them; a charter that is added is in force from
-    /// now on.
+    /// Applies the next entry, where `read` returns the statements of a text, `add` adds statements
+    /// to the tables, and `first_wrong` returns the index of the first proof that is not right, or
+    /// `None` if each is right. The statements of a text are added if the whole list is good with
+    /// them; a charter that is added is in force from now on.
     fn apply_by<
         T: Fn(&[u8]) -> Result<Vec<Stmt>, ReadFault>,
         E: Fn(&[Stmt], &mut Tables, &mut StepCounts, &mut Checkers) -> AddOutcome,

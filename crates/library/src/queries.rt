@@ -46,9 +46,10 @@ impl Library {
     /// Returns the labels of the `$a` on which the proof of the `$p` with the label rests: those that it cites, and those on which
     /// the proofs of the `$p` that it cites rest. Each is returned once, in the order of the library.
     ///
-    /// Errors: `NoLabel` if no statement has the label, `NotProvable` if it is no `$p`, both even if every allocation
-    /// fails; else `Memory`. Cost: that of the proofs that it rests on, each read once, and a byte for each statement
-    /// before it. Source: Metamath, 4.2.6 and appendix B.
+    /// Errors: `NoLabel` if no statement has the label, `NotProvable` if the one that has it is no
+    /// `$p`, both even if every allocation fails; else `Memory`. Cost: that of the proof and of
+    /// those that it rests on, each read once, and a byte for each statement before the `$p`.
+    /// Source: Metamath, 4.2.6 and appendix B.
     pub fn trace(&self, label: &[u8]) -> Result<Vec<Word>, AskFault>
         ensures labels { IfOk result (λ labels. IsTrace self.now.replica.statements label.now labels.items) }
         ensures no_label { (result ≡ Err AskFault.NoLabel) ↔ HasNoLabel self.now.replica.statements label.now }
@@ -106,8 +107,8 @@ impl Library {
     /// Returns the derivation that the proof of the `$p` with the label spells.
     ///
     /// Errors: `NoLabel` and `NotProvable` as for `trace`; `TooLarge` if the derivation has more than 65,536 nodes or a
-    /// depth above 1,024; `Memory` in place of an answer or of `TooLarge`. Cost: a check of the proof, and the tree.
-    /// Source: Metamath, 4.2.6 and appendix B.
+    /// depth above 1,024; `Memory` if an allocation fails, even if the derivation is too large.
+    /// Cost: a check of the proof, and the tree. Source: Metamath, 4.2.6 and appendix B.
     pub fn tree(&self, label: &[u8]) -> Result<Tree, AskFault>
         ensures tree { IfOk result (λ tree. IsTreeOf self.now.replica.statements label.now (derivation_of tree)) }
         ensures within_limits { IfOk result (λ tree. IsSmall (derivation_of tree)) }

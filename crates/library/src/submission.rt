@@ -7,8 +7,8 @@ use std::alloc::AllocError;
 /// The largest number of bytes of a text.
 pub const MAX_BYTES: usize = 67_108_864;
 
-/// A text with its author. Each author numbers his texts and charters. If several entries of the log have the same
-/// author and number, only the first is decided.
+/// A text with its author. Each author numbers their own texts and charters. If several entries of
+/// the log have the same author and number, only the first is decided.
 #[derive(Drop)]
 pub struct Submission {
     pub author: u64,

@@ -35,7 +35,7 @@ pub enum Verdict {
     Added,
     /// It was a no-operation (`None` in place of an entry).
     Nothing,
-    /// The author's entry of that serial was decided before; the first verdict stays.
+    /// The author's entry of that serial number was decided before; the first verdict stays.
     Repeat,
     /// The entry was refused, and nothing of it was added.
     Refused(Cause),
