@@ -9,7 +9,8 @@ use Rattle.verify.specs.Right.{weight_limit}
 use Rattle.verify.specs.declared.failure.Failure.{Failure}
 use Rattle.verify.specs.declared.failure.Failure.TheVariants as failure
 
--- the first `done` items run to these results, and the next item, if there is one, has no step within the limit
+-- the first `done` items run to these results, and the next item, if there is one, cannot be done
+-- within the limit
 pub record StopsAt (S : Database) (at : ℕ) (names : List Name) (items : List Item) (done : ℕ) (st : Results ℕ) : Type 0 where
   pub within : done ≤ length items
   pub runs : Runs S at start (take done items) (named names st)
