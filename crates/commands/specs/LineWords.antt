@@ -8,6 +8,8 @@ use Rattle.commands.specs.declared.line_words.TheConstants.{SPACE}
 use Rattle.commands.specs.declared.line_words.NodeEntryId.{NodeEntryId}
 use Rattle.commands.specs.declared.line_words.NodePair.{NodePair}
 
+-- the option that f gives for the value of o, or none if o is none; a `do` block is made of these,
+-- and its `x ← o` is `let x = o?` of Rust
 infixl 10 ◌>>=◌
 abbrev pub ◌>>=◌ : {A B : Type 0} → Option A → (A → Option B) → Option B
 o >>= f = option_and_then f o

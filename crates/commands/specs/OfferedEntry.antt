@@ -1,6 +1,6 @@
 -- The entries that lines offer.
 -- Source: this project's own form.
--- The code copies the text and the names into an entry of their own.
+-- The code copies the text and the authors into the entry.
 use Rattle.std.specs.Prelude.{ℕ, ◌+◌, Bool, true, ◌&&◌, nat_lt, List, [], ◌∷◌, length, Option, Some, None, if◌then◌else◌}
 use Rattle.library.specs.declared.charter.TheConstants.{MAX_NAMES}
 use Rattle.library.specs.declared.entry.Entry.TheVariants.{Text, Charter}
@@ -26,7 +26,7 @@ numbers_of (w ∷ ws) = do
   ns ← numbers_of ws
   Some (n ∷ ns)
 
--- whether these numbers can be those of the authors of a charter: 1 to 64 in rising order
+-- whether these numbers can be the authors of a charter (its names): 1 to 64 in rising order
 abbrev pub are_names : List ℕ → Bool
 are_names numbers = nat_lt 0 (length numbers) && nat_lt (length numbers) (MAX_NAMES + 1) && is_rising numbers
 

@@ -23,7 +23,8 @@ lines_before word [] = None
 lines_before word (line ∷ lines) =
     if bytes_eq line word then Some ([], 1) else option_map (λ t. (line ++ LINE_FEED ∷ t.0, t.1 + 1)) (lines_before word lines)
 
--- the first n bytes, if a line feed follows them, and the count of the lines taken: the line feeds in them, and this one
+-- the first n bytes, if a line feed follows them, and the count of the lines taken: the line feeds
+-- in them, and this one; past the end `slice_index` is 0
 abbrev pub first_bytes : ℕ → List ℕ → Option (List ℕ × ℕ)
 first_bytes n bytes =
     if slice_index bytes n == LINE_FEED then Some (take n bytes, count_by (λ b. b == LINE_FEED) (take n bytes) + 1) else None

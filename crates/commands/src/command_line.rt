@@ -1,4 +1,4 @@
-//! The words of a command line.
+//! The request that the words of a command line make.
 ghost use Rattle.std.specs.Prelude.{◌≤◌, IfOk};
 
 use crate::grammar::{commands, matches_of};
@@ -30,7 +30,8 @@ pub fn parse_command_line<'a>(
     }
 }
 
-/// Returns the request for the version, or the fault of a bad command line or a request for help.
+/// Returns the request for the version if the words ask for it, else the fault with its text. The
+/// fault of a request for help has the help as its text.
 fn request_of_error<'a>(
     alloc: Global,
     error: &Error,

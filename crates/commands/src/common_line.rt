@@ -12,7 +12,8 @@ use std::alloc::Global;
 /// A line that both commands have: an event at a node, or a question.
 #[derive(Drop)]
 pub enum CommonLine {
-    /// `charter K AUTHOR SERIAL NAME ..`, `offer` and `submit`: an entry is offered.
+    /// `charter K AUTHOR SERIAL NAME ..`, or a text by `offer` (`play`) or `submit` (`serve`): an
+    /// entry is offered.
     Offer(OfferedEntry),
     /// `begin K`: the node begins a ballot.
     Begin { node: u8 },
@@ -38,7 +39,7 @@ pub enum CommonLine {
     Events,
 }
 
-/// Parses the words after a verb as a line that both commands have.
+/// Parses the words after a verb as a line that both commands have and that offers no text.
 ///
 /// Errors: `Bad` if the verb and the words are no such line; else `Memory` if an allocation fails.
 pub(crate) fn parse_common_line(

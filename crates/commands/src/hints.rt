@@ -11,7 +11,7 @@ enum InputKind {
 
 /// Appends a line that says how to give a file, if a word seems to be the name of a file. There are
 /// three cases: it is the only word; the other words are a request; the last two words are names of
-/// files, and the other words are a request. Else appends nothing.
+/// files, and the other words are a request about a database. Else appends nothing.
 ///
 /// Errors: an allocation fails. Cost: that of parsing the words, for each word that may be a file.
 pub(crate) fn push_hint(

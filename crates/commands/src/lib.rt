@@ -12,6 +12,9 @@
 //! follow), `offered_entry`, `node_question` (labels), `common_line`, `play_line`, `serve_line`
 //! and `session_line` (the request of a line), `session_texts` (where a text ends), `script` (all
 //! lines).
+//!
+//! In a clause `a.old` and `a.new` are a `&mut` argument before and after the call, `a.now` is what
+//! a shared reference refers to, and `a.entry` an owned argument as it is passed.
 #![tactic(auto)]
 
 mod command_line;

@@ -14,7 +14,7 @@ pub const SPACE: u8 = b' ';
 pub(crate) type Words<'a> = Pieces<'a, SPACE>;
 
 /// A node, and the author and serial number by which a line names an entry. The entry itself is not
-/// part of it.
+/// part of it. An author is a number, and gives each of its entries a serial number of its own.
 #[derive(Clone, Copy, Debug, PartialEq, Eq)]
 pub struct NodeEntryId {
     pub node: u8,
@@ -40,14 +40,15 @@ impl<'a> Pieces<'a, SPACE> {
         }
     }
 
-    /// Takes the next word as a number. Returns `None` if it is not a number.
+    /// Takes the next word as a number. Returns `None` if it is not a number or there is none; the
+    /// words left are then not specified.
     pub fn take_number(&mut self) -> Option<u64>
         ensures { option_map (λ number. (number, self.new)) result ≡ first_number self.old }
     {
         parse_number(self.take()?)
     }
 
-    /// Takes the next word as the number of a node. Returns `None` if it is not a number.
+    /// Takes the next word as the number of a node. Returns `None` as `take_number` does.
     pub fn take_node(&mut self) -> Option<u8>
         ensures { option_map (λ node. (node, self.new)) result ≡ first_node self.old }
     {
@@ -56,7 +57,8 @@ impl<'a> Pieces<'a, SPACE> {
     }
 
     /// Takes the next three words as `K AUTHOR SERIAL`: a node, and the author and serial number of
-    /// an entry. Returns `None` unless they are three numbers.
+    /// an entry. Returns `None` unless they are three numbers; the words left are then not
+    /// specified.
     pub fn take_entry_id(&mut self) -> Option<NodeEntryId>
         ensures { option_map (λ entry_id. (entry_id, self.new)) result ≡ first_entry_id self.old }
     {

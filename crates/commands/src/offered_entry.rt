@@ -68,8 +68,8 @@ pub(crate) fn parse_charter_offer(
     })
 }
 
-/// Returns whether the words that are left are the authors of a charter: 1 to 64 numbers, each
-/// greater than the one before it. Does not allocate.
+/// Returns whether the words that are left are the authors of a charter (`Names`): 1 to 64 numbers,
+/// each greater than the one before it. Does not allocate.
 fn are_names(mut words: Words<'_>) -> bool
     ensures { result ≡ is_some (names_of words.entry) }
 {

@@ -7,6 +7,7 @@ use std::marker::Model;
 /// The pieces of a text that are not taken yet. In contracts it is the list of them.
 #[derive(Drop)]
 pub(crate) struct Pieces<'a, const SEPARATOR: u8> {
+    /// The bytes that are left, or `None` if the last piece was taken.
     pub rest: Option<&'a [u8]>,
 }
 

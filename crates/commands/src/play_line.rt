@@ -14,9 +14,10 @@ use std::alloc::Global;
 /// A line of a script of `play`.
 #[derive(Drop)]
 pub enum PlayLine {
-    /// A line that both commands have; `offer`, `offer-lines` and `offer-bytes` offer a text.
+    /// A line that both commands have, or `offer`, `offer-lines` or `offer-bytes`, which offers a
+    /// text.
     Common(CommonLine),
-    /// `deliver N`: a packet is delivered.
+    /// `deliver N`: a packet is delivered. Packets count from 0 in the order of posting.
     Deliver { packet: u64 },
     /// `apply K`: the next entry of the node's log is applied.
     Apply { node: u8 },

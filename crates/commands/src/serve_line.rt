@@ -15,11 +15,13 @@ use std::alloc::Global;
 /// A line of a script of `serve`.
 #[derive(Drop)]
 pub enum ServeLine {
-    /// A line that both commands have; `submit`, `submit-lines` and `submit-bytes` offer a text.
+    /// A line that both commands have, or `submit`, `submit-lines` or `submit-bytes`, which offers
+    /// a text.
     Common(CommonLine),
-    /// `settle K AUTHOR SERIAL`: the verdict of the node's library, as soon as it is known.
+    /// `settle K AUTHOR SERIAL`: waits, up to a limit, for the verdict of the node's library.
     Settle(NodeEntryId),
-    /// `add`, `add-lines` and `add-bytes`: a text is submitted until its verdict is known.
+    /// `add`, `add-lines` and `add-bytes`: a text is submitted, again and again up to a limit,
+    /// until its verdict is known.
     Add(OfferedEntry),
 }
 
@@ -67,7 +69,7 @@ pub(crate) fn added_form(verb: &[u8]) -> Option<TextForm>
     )
 }
 
-/// Parses the words after a verb that submits no text.
+/// Parses the words after a verb that submits no text: one that adds a text, or gives none.
 fn parse_add_or_else<'a>(
     alloc: Global,
     verb: &[u8],

@@ -52,7 +52,7 @@ abbrev pub offer_lines : ℕ → Entry → List ℕ
 offer_lines node (Text submission) = text_offer_lines node submission
 offer_lines node (Charter author serial names) = codes "charter" ++ spaced (node_author_serial_words node author serial) ++ spaced (map decimal names) ++ codes "\n"
 
--- the lines of an event
+-- the lines of an event; `value.0` is the offered entry
 abbrev pub lines_of_event : Event Carried → List ℕ
 lines_of_event (Offer node value) = offer_lines node value.0
 lines_of_event (Begin node) = number_line (codes "begin") node
@@ -75,11 +75,13 @@ play_line_of_event (Begin node) = Common (BeginLine node)
 play_line_of_event (Deliver number) = DeliverLine number
 play_line_of_event (Restart node) = Common (RestartLine node)
 
--- the author, the serial number and the length of the text fit in 64 bits
+-- the author, the serial number and the length of the text fit in 64 bits, as the types of the code
+-- bound them
 abbrev pub TextIsInRange : Submission → Type 0
 TextIsInRange s = (s.author < 2 ^ 64) × (s.serial < 2 ^ 64) × (length s.text < 2 ^ 64)
 
--- the numbers of the entry fit in 64 bits; a charter has 1 to 64 names, in rising order
+-- the numbers of the entry fit in 64 bits; the names of a charter are 1 to 64 authors, in rising
+-- order
 abbrev pub EntryIsInRange : Entry → Type 0
 EntryIsInRange (Text submission) = TextIsInRange submission
 EntryIsInRange (Charter author serial names) = (author < 2 ^ 64) × (serial < 2 ^ 64) × AreNames names × AllByRecursion (λ n. n < 2 ^ 64) names

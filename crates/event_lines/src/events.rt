@@ -55,6 +55,8 @@ fn count_line_feeds(text: &[u8]) -> usize
 }
 
 /// Appends the lines of an event.
+///
+/// The clause `in_range` states the bounds of the types of its fields, for the proof of `parses`.
 fn push_event(text: &mut Vec<u8>, event: &Event<Carried>) -> Result<(), AllocError>
     ensures text { OnOk result (text.new.items ≡ text.old.items ++ lines_of_event event.now) }
     ensures in_range { OnOk result (EventIsInRange event.now) }

@@ -1,8 +1,13 @@
-//! The history of a run as a script of `play`, which has a line for each event.
+//! The history of a run as a script of `play`, which has a line for each event. The bytes of an
+//! offered text that has a line feed follow its line.
 //!
 //! The main contract: the text of `event_lines` is parsed as exactly the lines of `play` for these
-//! events, in order. `program` uses `push_events`, which appends the count of line feeds and then
-//! this text to an answer.
+//! events, in order. `program` uses `push_events`, which appends a line `events N` and then this
+//! text to an answer, where N is the count of its line feeds. `Carried` is an offered entry as a
+//! value that packets carry.
+//!
+//! In a clause `text.old` and `text.new` are the text before and after the call, `a.now` is what a
+//! shared reference `a` refers to, and `OnOk result P` says P if the result is `Ok`.
 #![tactic(auto)]
 
 mod events;

@@ -1,4 +1,5 @@
--- Answers of several lines, which begin with their line count, and the entries that a node learned.
+-- Answers of several lines, which begin with their line count, and logs of values that packets
+-- carry.
 -- Source: this project's own form.
 -- The code appends each part to the answer.
 use Rattle.std.specs.Prelude.{ℕ, ◌==◌, List, ◌++◌, codes, count_by, decimal, flat_map, Option}
@@ -14,10 +15,10 @@ line_feeds_of text = count_by (λ b. b == 10) text
 abbrev pub counted_lines_text : List ℕ → List ℕ → List ℕ
 counted_lines_text word lines = word ++ codes " " ++ decimal (line_feeds_of lines) ++ codes "\n" ++ lines
 
--- an entry of a log, after a space
+-- an entry of a log, as a value that packets carry, after a space
 abbrev pub spaced_value_text : Option Carried → List ℕ
 spaced_value_text v = codes " " ++ entry_text (entry_of v)
 
--- the entries that a node learned, on one line
+-- a log of values that packets carry, on one line with its line feed
 abbrev pub learned_text : List (Option Carried) → List ℕ
 learned_text entries = codes "log" ++ flat_map spaced_value_text entries ++ codes "\n"

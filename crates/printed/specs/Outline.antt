@@ -33,6 +33,7 @@ abbrev pub rules_line : Option (ℕ × Rule) → List ℕ
 rules_line None = codes "good\n"
 rules_line (Some broken) = verdict_text (Refused (BrokenRule broken.0 broken.1)) ++ codes "\n"
 
+-- the outline of a text that reads as these statements
 abbrev pub outline_of : Database → List ℕ
 outline_of S = outline_lines 1 S ++ rules_line (first_broken 1 [] S)
 
@@ -40,7 +41,8 @@ outline_of S = outline_lines 1 S ++ rules_line (first_broken 1 [] S)
 abbrev pub numbered_line : List ℕ → ℕ → List ℕ
 numbered_line words number = words ++ decimal number ++ codes "\n"
 
--- these bytes are the outline of the text; for every text exactly one of the four premises holds
+-- these bytes are the outline of the text; for every text exactly one of the four premises holds,
+-- by laws of mm_lex and mm_read; offsets count from 0, tokens from 1
 pub record IsOutline (text bytes : List ℕ) : Type 0 where
   pub reads : (S : Database) → Reads text S → bytes ≡ outline_of S
   pub text_fault : (offset : ℕ) → IsFirstBadByte text offset → bytes ≡ numbered_line (codes "refused C2 byte ") offset

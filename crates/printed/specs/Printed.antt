@@ -30,6 +30,7 @@ abbrev pub entry_text : Option Entry → List ℕ
 entry_text None = codes "idle"
 entry_text (Some entry) = decimal (author_of entry) ++ codes "/" ++ decimal (serial_of entry)
 
+-- a space and SLOT@R.N; the value of the report is not printed
 abbrev pub report_text : SlotReport Carried → List ℕ
 report_text r = codes " " ++ decimal r.slot ++ codes "@" ++ ballot_text r.ballot
 
@@ -54,7 +55,7 @@ body_text (Told slot value) = codes "told " ++ decimal slot ++ codes " " ++ entr
 abbrev pub packet_text : Packet Carried → List ℕ
 packet_text p = decimal p.from ++ codes ">" ++ decimal p.to ++ codes " " ++ body_text p.body
 
--- the name of a rule
+-- the name of a rule; `Memory` is none, but a failed allocation, and no library refuses with it
 abbrev pub rule_text : BrokenRule → List ℕ
 rule_text G1 = codes "G1"
 rule_text G2 = codes "G2"
@@ -84,7 +85,7 @@ verdict_text Nothing = codes "nothing"
 verdict_text Repeat = codes "repeat"
 verdict_text (Refused cause) = codes "refused " ++ cause_text cause
 
--- a verdict, or the caller's word `undecided` if nothing was decided
+-- a verdict, or the word `undecided` of the caller if nothing was decided
 abbrev pub verdict_text_or : Option Verdict → List ℕ → List ℕ
 verdict_text_or None undecided = undecided
 verdict_text_or (Some verdict) undecided = verdict_text verdict
@@ -97,7 +98,7 @@ spaced_entry_text entry = codes " " ++ entry_text entry
 abbrev pub log_text : List (Option Entry) → List ℕ
 log_text log = codes "log" ++ flat_map spaced_entry_text log
 
--- the line of an assertion
+-- the line of an assertion, which is `proved` if it is a $p
 abbrev pub assertion_line : Listed → List ℕ
 assertion_line l = (if l.proved then codes "proved " else codes "axiom ") ++ l.label ++ codes "\n"
 

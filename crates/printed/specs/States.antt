@@ -29,5 +29,6 @@ counts_text state applied = count_text (codes " learned ") state.log_len ++ coun
 abbrev pub line_end_text : Bool → List ℕ
 line_end_text down = (if down then codes " down" else []) ++ codes "\n"
 
+-- the line of a node, given how many entries were applied and whether it is down
 abbrev pub state_text : NodeState → ℕ → Bool → List ℕ
 state_text state applied down = role_and_promise state ++ counts_text state applied ++ line_end_text down

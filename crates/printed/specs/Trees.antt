@@ -12,7 +12,8 @@ use Rattle.verify.specs.Proves.{label_or_empty}
 abbrev pub label_line : Name → List ℕ
 label_line label = label ++ codes "\n"
 
--- the line of a node: its depth, a space, and the label of the statement at its position
+-- the line of a node of the tree: its depth, a space, and the label of the statement at its
+-- position
 abbrev pub tree_node_line : Database → ℕ → ℕ → List ℕ
 tree_node_line S depth at = decimal depth ++ codes " " ++ label_or_empty (stmt_at S at) ++ codes "\n"
 

@@ -22,7 +22,8 @@ pub fn push_ok(text: &mut Vec<u8>, posted: u64) -> Result<(), AllocError>
     text.extend_from_slice(b"\n")
 }
 
-/// Appends the verdict, or the caller's word `undecided` if nothing was decided, and a line feed.
+/// Appends the verdict and a line feed. If nothing was decided, `undecided` stands for the verdict:
+/// a word that the caller chooses.
 pub fn push_verdict_line(
     text: &mut Vec<u8>,
     verdict: Option<Verdict>,
@@ -35,7 +36,7 @@ pub fn push_verdict_line(
     text.extend_from_slice(b"\n")
 }
 
-/// Appends the verdict, or the caller's word `undecided` if nothing was decided.
+/// Appends the verdict, or the word `undecided` of the caller if nothing was decided.
 fn push_verdict_or(
     text: &mut Vec<u8>,
     verdict: Option<Verdict>,
@@ -50,7 +51,7 @@ fn push_verdict_or(
     }
 }
 
-/// Appends a log on one line: each entry, or `idle` for a no-operation.
+/// Appends a log on one line: each entry as `AUTHOR/SERIAL`, or `idle` for a no-operation.
 pub fn push_log(text: &mut Vec<u8>, log: &[Option<Entry>]) -> Result<(), AllocError>
     ensures { OnOk result (text.new.items ≡ text.old.items ++ (log_text log.now ++ codes "\n")) }
 {
@@ -92,7 +93,7 @@ pub fn push_assertions(text: &mut Vec<u8>, list: &[Listed]) -> Result<(), AllocE
     Ok(())
 }
 
-/// Appends the line of an assertion.
+/// Appends the line of an assertion: `proved LABEL` for a `$p`, `axiom LABEL` for a `$a`.
 fn push_assertion_line(text: &mut Vec<u8>, assertion: &Listed) -> Result<(), AllocError>
     ensures { OnOk result (text.new.items ≡ text.old.items ++ assertion_line assertion.now) }
 {

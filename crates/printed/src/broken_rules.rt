@@ -33,6 +33,7 @@ fn first_broken_in(
     requires empty { scope.old.statements ≡ [] }
     ensures { IfOk result (λ found. found ≡ first_broken 1 [] statements.now) }
 {
+    // Counts the statements that the scope is given, for contracts alone; has no size at run time.
     let mut steps = Steps::new();
     for (index, statement) in statements.iter().enumerate() {
         if let Err(rule) = scope.add(statement, &mut steps) {

@@ -1,5 +1,5 @@
-//! Answers of several lines, which begin with their line count, and the entries that a node
-//! learned.
+//! Answers of several lines, which begin with their line count, and logs of values that packets
+//! carry.
 ghost use Rattle.std.specs.Prelude.{◌≡◌, ◌++◌, OnOk};
 ghost use Rattle.printed.specs.Counted.{counted_lines_text, learned_text, line_feeds_of};
 
@@ -26,8 +26,8 @@ fn line_feeds(text: &[u8]) -> usize
     text.iter().filter(|byte| **byte == b'\n').count()
 }
 
-/// Appends the entries that a node learned, on one line, as `push_log` does: each entry, or `idle`
-/// for a no-operation.
+/// Appends a log on one line, as `push_log` does. Here its entries are values that packets carry:
+/// `serve` prints those that a node took over from its log.
 pub fn push_learned(text: &mut Vec<u8>, entries: &[Option<Carried>]) -> Result<(), AllocError>
     ensures { OnOk result (text.new.items ≡ text.old.items ++ learned_text entries.now) }
 {

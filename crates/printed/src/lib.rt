@@ -3,6 +3,9 @@
 //! if an allocation fails, and its cost is the size of the text. After a failure the answer is not
 //! specified.
 //!
+//! In a clause `text.old` and `text.new` are the answer before and after the call, `a.now` is what
+//! a shared reference `a` refers to, and `OnOk result P` says P if the result is `Ok`.
+//!
 //! Crates above use the clause of each call: the appended text is exactly that of a definition in
 //! `specs`. `C1` to `C7` are the causes of a refusal (`library::Cause`), `G1` to `G10` the rules of
 //! a database (`scope::Rule`).

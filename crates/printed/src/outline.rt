@@ -17,7 +17,8 @@ use std::alloc::{AllocError, Global};
 /// Returns the outline of a text: a line for each statement (its number, a space, and its export
 /// form with the number of proof tokens in place of the proof), then `good`, or `refused C4 N Gk`
 /// for the first statement that breaks a rule and the least rule that it breaks. For a text that
-/// cannot be parsed, returns only `refused C2 byte N` or `refused C3 token N`.
+/// cannot be parsed, returns only `refused C2 byte N` (bytes count from 0) or `refused C3 token N`
+/// (tokens count from 1).
 ///
 /// Errors: an allocation fails. Cost: the size of the text.
 pub fn outline_text(alloc: Global, text: &[u8]) -> Result<Vec<u8>, AllocError>

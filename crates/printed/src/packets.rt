@@ -21,7 +21,7 @@ pub fn push_packet(text: &mut Vec<u8>, packet: &Packet<Carried>) -> Result<(), A
     push_body(text, &packet.body)
 }
 
-/// Appends the name of the body and its fields.
+/// Appends the name of the kind of packet, and its fields.
 fn push_body(text: &mut Vec<u8>, body: &Body<Carried>) -> Result<(), AllocError>
     ensures { OnOk result (text.new.items ≡ text.old.items ++ body_text body.now) }
 {
@@ -106,7 +106,7 @@ fn push_reports(text: &mut Vec<u8>, reports: &[SlotReport<Carried>]) -> Result<(
     Ok(())
 }
 
-/// Appends a space and `SLOT@R.N`.
+/// Appends a space and `SLOT@R.N`: the slot and the ballot of the report. Its value is not printed.
 fn push_report(text: &mut Vec<u8>, report: &SlotReport<Carried>) -> Result<(), AllocError>
     ensures { OnOk result (text.new.items ≡ text.old.items ++ report_text report.now) }
 {
@@ -162,7 +162,7 @@ pub fn push_spaced_entry(text: &mut Vec<u8>, entry: Option<&Entry>) -> Result<()
     }
 }
 
-/// Appends `R.N`.
+/// Appends `R.N`: the round and the node of the ballot.
 pub(crate) fn push_ballot(text: &mut Vec<u8>, ballot: Ballot) -> Result<(), AllocError>
     ensures { OnOk result (text.new.items ≡ text.old.items ++ ballot_text ballot) }
 {

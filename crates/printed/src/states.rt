@@ -8,7 +8,9 @@ use numbers::push_number;
 use std::alloc::AllocError;
 use synod::{NodeState, Role};
 
-/// Appends the state of a node, how many entries it applied, and whether it is down, on one line.
+/// Appends a line of the state of a node: its role with the ballot, the ballot that it promised,
+/// how many entries its log has, how many of them were applied, how many values wait until the node
+/// leads, and whether it is down.
 pub fn push_state(
     text: &mut Vec<u8>,
     state: &NodeState,

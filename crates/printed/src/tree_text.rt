@@ -46,7 +46,7 @@ fn depth_below(depth: u64) -> Result<u64, AllocError>
     depth.checked_add(1).ok_or(AllocError)
 }
 
-/// Appends the depth, a space, and the label of the statement at a position.
+/// Appends a line: the depth, a space, and the label of the statement at a position, from 1.
 fn push_tree_node(
     text: &mut Vec<u8>,
     statements: &[Stmt],
@@ -61,7 +61,7 @@ fn push_tree_node(
     text.extend_from_slice(b"\n")
 }
 
-/// Appends the label of the statement at a position, if it has one.
+/// Appends the label of the statement at a position, from 1, if it has one.
 fn push_label_at(text: &mut Vec<u8>, statements: &[Stmt], at: usize) -> Result<(), AllocError>
     ensures { OnOk result (text.new.items
         ≡ text.old.items ++ label_or_empty (stmt_at statements.now at)) }

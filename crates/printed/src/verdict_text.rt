@@ -68,6 +68,7 @@ fn rule_name(rule: Rule) -> &'static [u8]
         Rule::G8 => b"G8",
         Rule::G9 => b"G9",
         Rule::G10 => b"G10",
+        // No rule, but a failed allocation: no library refuses with it.
         Rule::Memory => b"",
     }
 }
