@@ -10,7 +10,7 @@ use Rattle.nodes.specs.Words.{Verdict, Carried, Cell, StepFault, Apart}
 use Rattle.nodes.specs.Desk.{IsPlayFault}
 use Rattle.nodes.specs.Questions.{IsCellAt}
 
--- the outcome of the entry in a cell of node k
+-- the outcome of the entry in a cell of node k, as `IsCellAt` says it
 pub record IsOutcome (k : ℕ) (entry : Entry) (outcome : Option Verdict) : Type 0 where
   pub cell : Cell
   pub of_node : IsCellAt k cell

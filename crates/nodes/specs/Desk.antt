@@ -1,6 +1,9 @@
 -- The answers of a desk: those of the calls of a cluster on the values under the locks.
 -- Source: this project's profile.
 -- The code releases the locks before it returns, so the definitions state that there are such values.
+-- `Plays carried_size old new e answer` (crate `switch`): at the switch `old`, the event e has this
+-- answer, the count of packets posted so far or a fault, and leaves the switch `new`.
+-- `carried_size` is the size of an entry in bytes.
 use Rattle.std.specs.Prelude.{◌≡◌, ◌⊎◌, ℕ, List, [], ◌∷◌, Option, Result, Ok, Err}
 use Rattle.nodes.specs.Words.{Listed, Verdict, status, listed, Carried, Ahead, Event, Deliver, Restart, StepFault, Apart, Stopped, carried_size, SwitchView, Plays, Belongs, IsAhead, Cell, IsCell}
 
@@ -18,7 +21,8 @@ pub record IsStatus (k author serial : ℕ) (verdict : Option Verdict) : Type 0 
   pub is_cell : IsCell cell
   pub decides : verdict ≡ status cell.node_library.library.decided author serial
 
--- which library has more statements: that of a cell of node j or that of a cell of node k, both of one switch
+-- which library has more statements: that of a cell of node j or that of a cell of node k, both of
+-- one switch; that each library is that of its cell's entries (`IsCell`) is not said
 pub record IsCompared (j k : ℕ) (ahead : Ahead) : Type 0 where
   pub switch : SwitchView Carried
   pub one : Cell
@@ -29,7 +33,7 @@ pub record IsCompared (j k : ℕ) (ahead : Ahead) : Type 0 where
   pub other_belongs : Belongs other switch
   pub compares : IsAhead ahead one.node_library.library.statements other.node_library.library.statements
 
--- The event that a call at a desk plays on the switch under the lock.
+-- The rest is about the events that calls at a desk play on the switch.
 
 -- the result of a call is that of the event at the switch: some count of packets if it is taken, else its fault
 abbrev pub IsResultOf : {A : Type 0} → SwitchView Carried → SwitchView Carried → Event Carried → Result A StepFault → Type 0

@@ -7,7 +7,7 @@ use Rattle.switch.specs.Switch.{is_down_at}
 use Rattle.nodes.specs.declared.questions.NodeStatus.{NodeStatus}
 use Rattle.nodes.specs.Words.{Cell, Carried, Event, SwitchView, world_of, carried_size}
 
--- the cell is node k's
+-- the cell is that of node k; that its library is that of its entries (`IsCell`) is not said
 pub record IsCellAt (k : ℕ) (cell : Cell) : Type 0 where
   pub at : cell.node ≡ k
 

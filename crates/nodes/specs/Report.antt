@@ -4,6 +4,7 @@
 use Rattle.std.specs.Prelude.{◌≡◌, ℕ, zero, suc, ◌+◌, ◌==◌, Bool, false, List, [], ◌∷◌, Option, Some, None, Ok, if◌then◌else◌}
 use Rattle.nodes.specs.Words.{Carried, Event, World, node_of, SwitchView, world_of, carried_size}
 
+-- there is a node, and it is node k
 abbrev pub is_node : ℕ → Option ℕ → Bool
 is_node k None = false
 is_node k (Some j) = j == k

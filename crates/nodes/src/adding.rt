@@ -16,7 +16,8 @@ use world::Carried;
 /// The greatest number of times that an entry is submitted.
 const MAX_TRIES: u32 = 17;
 
-/// The least number of turns (calls of `yield_now`) to wait after the first try; it doubles with each further try.
+/// The least number of turns (calls of `yield_now`) to wait after the first try; it doubles with
+/// each further try, up to `MAX_DOUBLINGS` times.
 const FIRST_WAIT: u64 = 1024;
 
 /// The greatest number of times that the wait doubles. So all waits together have fewer than 10,000,000 turns.
@@ -39,9 +40,10 @@ impl<G: Gate, K: Keep<Carried>> Desk<G, K> {
     /// before it, and the waits of two nodes differ, so that two proposers do not keep preempting
     /// each other. An entry that is submitted several times is decided once.
     ///
-    /// Errors: those of `submit` except `Busy`, and those of `begin`; `Apart` if the cell is not that
-    /// of its node; `Memory`. After an error the entry may still be decided. Cost: at most 17 offers,
-    /// 17 ballots and 10,000,000 turns, and one pass over the entries of the node.
+    /// Errors: those of `submit` except `Busy`, and those of `begin`; `Apart` if the cell is not
+    /// that of its node; `Memory`. After an error the entry may still be decided. Cost: at most 17
+    /// offers, 17 ballots and 10,000,000 turns, a call of `Library::status` for each 64 turns, and
+    /// one pass over the entries of the node.
     pub fn add<R: Wait>(&self, rt: &R, k: u8, entry: &Entry) -> Result<Option<Verdict>, StepFault>
         ensures outcome { IfOk result (IsOutcome k entry.now) }
         ensures no_node { self.now ≤ k → IsErr result }

@@ -15,8 +15,8 @@ use synod::Keep;
 use verify_pool::Gate;
 use world::Carried;
 
-/// A handle to a cluster, on which any thread may make calls. The calls take the locks, and may wait for them. Contracts see the
-/// number of nodes.
+/// A handle to a cluster, on which any thread may make calls. The calls take the locks, and may
+/// wait for them. Contracts see the number of nodes, as `self.now`.
 #[derive(Drop)]
 pub struct Desk<G: Gate, K: Keep<Carried>> {
     pub(crate) shared: Arc<SharedNodes<G, K>>,
@@ -135,10 +135,12 @@ impl<G: Gate, K: Keep<Carried>> Desk<G, K> {
         Ok(shared_cell.cell.library().status(author, serial))
     }
 
-    /// Returns which of two nodes has the library with more statements, if one has.
+    /// Returns which of two nodes has the library with more statements, if one has; `Same` if `j`
+    /// and `k` are one node.
     ///
-    /// Errors: `NoNode`; else `Apart` if one of the two cells does not belong to the switch, or is not that of its node.
-    /// Cost: the size of the entries that both nodes took over, each compared with one of the log.
+    /// Errors: `NoNode`; else, if the nodes differ, `Apart` if one of the two cells does not belong
+    /// to the switch, or is not that of its node. Cost: the size of the entries that both nodes
+    /// took over, each compared with one of the log.
     pub fn compare<R: Wait>(&self, rt: &R, j: u8, k: u8) -> Result<Ahead, StepFault>
         ensures compared { IfOk result (λ ahead. (j ≡ k) ⊎ IsCompared j k ahead) }
         ensures no_node { (self.now ≤ j) ⊎ (self.now ≤ k) → result ≡ Err NoNode }
@@ -159,7 +161,7 @@ impl<G: Gate, K: Keep<Carried>> Desk<G, K> {
     }
 }
 
-/// Returns the same answer with the two nodes in the other order.
+/// Returns the answer for the two nodes in the other order.
 fn swapped(ahead: Ahead) -> Ahead
     ensures { (j k : ℕ) → IsCompared j k ahead → IsCompared k j result }
 {

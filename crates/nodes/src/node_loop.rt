@@ -10,11 +10,12 @@ use synod::Keep;
 use verify_pool::Gate;
 use world::Carried;
 
-/// The largest number of hints that a node takes at once: each lock is taken once for all of them.
+/// The largest number of hints that a node takes at once. The node's and the switch's lock are
+/// taken once for the deliveries of all of them.
 const MAX_HINTS: usize = 32;
 
-/// Runs node `k` until its channel is closed: takes the waiting hints, up to `MAX_HINTS` at once, and delivers their packets as
-/// the weather says.
+/// Runs node `k` until its channel is closed: takes the waiting hints, up to `MAX_HINTS` at once,
+/// and delivers their packets as the weather says. The channel carries the packets' numbers alone.
 pub(crate) fn run_node<
     G: Gate + Sync + Drop,
     K: Keep<Carried> + Drop,

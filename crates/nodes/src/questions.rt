@@ -14,7 +14,7 @@ use synod::{Keep, NodeState, Value};
 use verify_pool::Gate;
 use world::Carried;
 
-/// The state of a node, and how far its cell is.
+/// The state of a node, and how many entries its cell applied.
 #[derive(Clone, Copy, PartialEq, Eq)]
 pub struct NodeStatus {
     /// The state that the node reports.
@@ -26,8 +26,9 @@ pub struct NodeStatus {
 }
 
 impl<G: Gate, K: Keep<Carried>> Desk<G, K> {
-    /// Calls `question` on node `k`'s cell, and returns the answer. The node waits meanwhile, so
-    /// the question should not print.
+    /// Calls `question` on node `k`'s cell, and returns the answer. The node's lock is held
+    /// meanwhile, so the node waits: a question should be short, and leave printing until after the
+    /// call.
     ///
     /// Errors: `NoNode`; else `Apart` if the cell is not that of its node. Cost: that of the question.
     pub fn ask<R: Wait, T, F: FnOnce(&NodeCell) -> T + Drop>(

@@ -26,7 +26,8 @@ impl SharedCell {
         }
     }
 
-    /// Counts packets, and returns whether the next entry is to be tried.
+    /// Counts `packets` more packets if the next entry is postponed, and returns whether it is to
+    /// be tried.
     pub fn is_due_after(&mut self, packets: usize) -> bool
         ensures { self.new.cell ≡ self.old.cell }
     {

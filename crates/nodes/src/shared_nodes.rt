@@ -62,9 +62,10 @@ impl<G: Gate, K: Keep<Carried>> SharedNodes<G, K> {
         }
     }
 
-    /// Delivers packets at node `k` one after another, takes over the new entries of its log, sends the hints of the packets
-    /// posted, and applies the entries. If an allocation fails, the entry is taken over at a later hint, or applied at a later
-    /// hint at which it is due.
+    /// Delivers packets, given by number, at node `k` one after another, takes over the new entries
+    /// of its log, sends the hints of the packets posted, and applies the entries, unless the next
+    /// one is postponed (`SharedCell`). If an allocation fails, the entry is taken over at a later
+    /// hint, or applied at a later hint at which it is due.
     pub fn handle<R: Threads + Wait + Sync>(&self, rt: &R, k: u8, packets: &[u64])
     where
         G: Sync,
@@ -118,7 +119,11 @@ impl<G: Gate, K: Keep<Carried>> SharedNodes<G, K> {
         apply_on_with(rt, &mut shared_cell.cell, self.workers, gate).is_ok()
     }
 
-    /// Returns which of two nodes is ahead, or `Apart`; `low` is the lower number.
+    /// Returns which of two nodes has the library with more statements, if one has. `low` has to be
+    /// below `high`: else the call may wait forever.
+    ///
+    /// Errors: `NoNode`, or `Apart` if one of the two cells is not that of its node or does not
+    /// belong to the switch.
     pub fn compare<R: Wait>(&self, rt: &R, low: u8, high: u8) -> Result<Ahead, StepFault>
         ensures compared { IfOk result (IsCompared low high) }
         ensures only_apart { low < vec_len self.now.cells → high < vec_len self.now.cells → IsOkUnless result Apart }

@@ -11,7 +11,8 @@ use std::mem;
 use synod::Keep;
 use world::Carried;
 
-/// A hint that a packet was posted: its receiver and its number.
+/// A hint that a packet was posted: its receiver and its number. The channel of the receiver
+/// carries the number alone.
 #[derive(Clone, Copy)]
 pub(crate) struct Hint {
     pub node: u8,
@@ -42,8 +43,9 @@ impl<K: Keep<Carried>> SharedSwitch<K> {
         Ok(self.hints(alloc, before, count))
     }
 
-    /// Restarts the cell's node. Returns the hints of the `other_count` packets by which it asks the other nodes.
-    /// If the node was down because a store failed, the packets of its pending event get no hint: they are lost.
+    /// Restarts the cell's node. Returns the hints of the `other_count` packets by which it asks
+    /// the other nodes for the first entry of the log. If the node was down because a store failed,
+    /// the packets of its pending event (the one whose store failed) get no hint: they are lost.
     ///
     /// Errors and cost: those of `cluster::restart_on`.
     pub fn restart(
@@ -59,8 +61,8 @@ impl<K: Keep<Carried>> SharedSwitch<K> {
         Ok(self.hints(alloc, count.saturating_sub(other_count), count))
     }
 
-    /// Delivers packets one after another. Returns the hints of the packets that these deliveries post. A refused
-    /// delivery posts nothing.
+    /// Delivers packets, given by number, one after another. Returns the hints of the packets that
+    /// these deliveries post. A refused delivery posts nothing.
     pub fn deliver_all(&mut self, alloc: Global, packets: &[u64]) -> Vec<Hint>
         ensures { DeliversAll self.old.switch self.new.switch packets.now }
     {

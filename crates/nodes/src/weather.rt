@@ -9,13 +9,15 @@ pub enum Fate {
     Drop,
     /// Its packet is delivered twice.
     Twice,
-    /// It is delayed: appended to the hints that wait now.
+    /// It is delayed: appended to the hints that wait now, and given a fate again when it is taken.
     Later,
 }
 
-/// Decides how the network treats each hint. A node's thread asks it once for each.
+/// Decides how the network treats each hint. A node's thread asks it each time that it takes a hint
+/// from its channel, so once more for each delay.
 pub trait Weather {
-    /// Returns the fate of the hint of packet `number`.
+    /// Returns the fate of the hint of packet `number`. (The turns of `adding` are others: calls of
+    /// `yield_now`.)
     fn turn(&mut self, number: u64) -> Fate;
 }
 

@@ -49,7 +49,7 @@ break_marks row s Begin = []
 break_marks row s (Deliver number) = []
 break_marks row s (Apply slot verdict) = []
 
--- the mark of the slots that its node learned in the step, if there are any
+-- the mark of the slots by which the log of its node grew in the step, if there are any
 abbrev pub learned_marks : ℕ → Step → List Mark
 learned_marks row s = if nat_lt s.learned_before s.learned then Learned (step_point row s) s.learned_before s.learned ∷ [] else []
 

@@ -1,6 +1,6 @@
 -- A run as contracts see it: its world, and its recorded steps.
 -- Source: this project's own form.
--- The code also keeps how many packets have been posted.
+-- The code also keeps how many packets have been posted (`posted` of `IsRecorded`).
 use Rattle.std.specs.Prelude.{◌≡◌, ℕ, List, length, filter}
 use Rattle.net.specs.World.{packets_after}
 use Rattle.net.specs.History.{world_of}

@@ -2,6 +2,7 @@
 -- Source: this project's own form; each event is at one node, as in Lamport's space-time diagrams
 -- (Time, Clocks, and the Ordering of Events, 1978).
 -- The code records a step as the world takes its event; here the steps are computed from the history.
+-- Events and acts have variants of the same names; here those of acts are `Offering` and so on.
 use Rattle.std.specs.Prelude.{ℕ, suc, Bool, true, false, List, [], ◌∷◌, Option, Some, None, Result, length, slice_get}
 use Rattle.synod.specs.declared.node.state.NodeState.{NodeState}
 use Rattle.synod.specs.declared.packet.Packet.{Packet}
@@ -32,7 +33,8 @@ abbrev pub receiver_of : Option (Packet Carried) → ℕ
 receiver_of None = 0
 receiver_of (Some p) = p.to
 
--- the node of an event; for a delivery, the receiver of the packet
+-- the node of an event; for a delivery, the receiver of the packet, or 0 if there is no such packet
+-- (`node_of_event` of `net` is None there)
 abbrev pub node_of_event : WorldOrFault → Event Carried → ℕ
 node_of_event r (Offer k entry) = k
 node_of_event r (Begin k) = k
@@ -44,7 +46,7 @@ abbrev pub learned_of : Option NodeState → ℕ
 learned_of None = 0
 learned_of (Some state) = state.log_len
 
--- the number of entries of the log of node k
+-- the number of entries of the log of node k, or 0 after a fault
 abbrev pub learned_by : WorldOrFault → ℕ → ℕ
 learned_by r k = learned_of (state_after r k)
 

@@ -42,7 +42,7 @@ struct ShownSteps<'a> {
 }
 
 /// Returns a picture, in SVG, of the marks of a range of steps. `weights` are those with which the
-/// run was made.
+/// run was made; only their number matters.
 ///
 /// Errors: `TooManySteps` if more than `MAX_ROWS` steps are to be shown, else `Memory` if an
 /// allocation fails. Cost: that of `Run::marks`, and the size of the picture.

@@ -26,7 +26,7 @@ pub enum Mark {
     Break {
         at: StepPoint,
     },
-    /// A node learns the entries of the slots `first..end`.
+    /// The log of a node grows by the entries of the slots `first..end`.
     Learned {
         at: StepPoint,
         first: u32,

@@ -60,7 +60,8 @@ impl Run {
 
     /// Takes an event, and records its step.
     ///
-    /// Errors: those of `World::step`, or `Memory`; the run is then unchanged.
+    /// Errors: those of `World::step`, but `Memory` may come before any of them, and `NoNode`
+    /// before `EventsSpent`; the run is then unchanged.
     #[tactic(auto, using(crate::proofs::RunLemmas::event_recorded, crate::proofs::RunLemmas::same_recorded))]
     pub fn step(&mut self, event: Event<Entry>) -> Result<(), StepFault>
         ensures taken { OnOk result
@@ -127,7 +128,8 @@ impl Run {
     }
 }
 
-/// Returns the fields of an event's step that are known before the world takes the event.
+/// Returns the fields of an event's step that are known before the world takes the event. For the
+/// delivery of a packet that does not exist these are of node 0; the world then refuses the event.
 ///
 /// Errors: `NoNode` if there is no such node.
 fn step_start(world: &World, posted: u64, event: &Event<Entry>) -> Result<StepStart, StepFault>

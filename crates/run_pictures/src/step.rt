@@ -9,6 +9,7 @@ use library::Verdict;
 pub struct Step {
     /// The node at which it happened; for a delivery, the receiver of the packet.
     pub node: u8,
+    /// Its kind.
     pub act: Act,
     /// The number of packets posted before it, which is the number of the first packet that it
     /// posted, if any; 0 for an application.
@@ -16,9 +17,10 @@ pub struct Step {
     /// One more than the number of the last packet that it posted, or `first_post` if it posted
     /// none; 0 for an application.
     pub end_post: u64,
-    /// The number of entries of the node's log before the step.
+    /// The number of entries of the node's log before the step. A log ends before the first gap: a
+    /// value learned beyond it is not counted.
     pub learned_before: u32,
-    /// The number of entries of the node's log after the step.
+    /// The number of entries of the node's log after the step: 0 after a restart.
     pub learned: u32,
 }
 

@@ -1,7 +1,7 @@
 //! The coordinates of a picture, in pixels from its upper left corner.
 ghost use Rattle.std.specs.Prelude.{◌≡◌, ◌≤◌, ◌+◌, ◌*◌, ◌^◌};
 
-/// The most rows that a caller may show; a `Timeline` does not enforce it.
+/// The greatest number of rows that a caller should show; a `Timeline` does not enforce it.
 pub const MAX_ROWS: u64 = 200;
 
 /// The x coordinate of the first column.

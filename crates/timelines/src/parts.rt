@@ -81,7 +81,7 @@ pub(crate) fn push_stump(
 }
 
 /// Appends the numbers of a stump, which are joined by commas, below its end. If they do not fit,
-/// only the first ones are shown, followed by `..`.
+/// only the first ones are shown (`first_numbers`), followed by `..`.
 pub(crate) fn push_stump_numbers(
     text: &mut Vec<u8>,
     from: GridPoint,
@@ -107,7 +107,7 @@ pub(crate) fn push_stump_numbers(
 }
 
 /// Returns the first of some numbers that are joined by commas: as many as fit before `..`, but at
-/// least one.
+/// least one, though not the last; so none if there is only one.
 fn first_numbers(numbers: &[u8]) -> &[u8] {
     let mut len = 0usize;
     for (end, byte) in numbers.iter().enumerate() {
@@ -133,7 +133,7 @@ pub(crate) fn push_break(text: &mut Vec<u8>, at: GridPoint) -> Result<(), AllocE
     text.extend_from_slice(b"h14\"/>\n")
 }
 
-/// Appends a point; `class` is an attribute of the element, or empty.
+/// Appends a point; `class` is a whole attribute of the element with a space before it, or empty.
 pub(crate) fn push_point(
     text: &mut Vec<u8>,
     at: GridPoint,
@@ -154,7 +154,7 @@ pub(crate) fn push_row(text: &mut Vec<u8>, at: GridPoint, number: u64) -> Result
     text.extend_from_slice(b"\">")
 }
 
-/// Appends words to the text of a row, with a class for their style.
+/// Appends words to the text of a row, with a class for their style (the name alone).
 pub(crate) fn push_span(text: &mut Vec<u8>, class: &[u8], words: &[u8]) -> Result<(), AllocError> {
     text.extend_from_slice(b" <tspan class=\"")?;
     text.extend_from_slice(class)?;

@@ -22,10 +22,14 @@ pub enum PointStyle {
 /// A picture that is drawn row by row. Labels, notes and titles are XML text: the caller escapes
 /// markup in them.
 ///
+/// Arrows, stumps and notes need a row: one that is drawn before the first `push_row` leaves the
+/// picture unspecified.
+///
 /// Errors of every call: an allocation fails; the picture is then not specified. Cost: the size of
-/// the label.
+/// the label, and a pass over the stumps of the last row, at most one for each node.
 #[derive(Drop)]
 pub struct Timeline {
+    /// How many nodes there are.
     nodes: u8,
     /// How many rows there are.
     rows: u32,
@@ -33,9 +37,11 @@ pub struct Timeline {
     last_point: GridPoint,
     /// The stumps of the last row, one for each node that they go to.
     stumps: Vec<Stump>,
-    /// Arrows and stumps, which are drawn below points and texts.
+    /// Arrows, stumps and breaks, which are drawn below points and texts.
     lines: Vec<u8>,
+    /// Points, and the numbers of stumps.
     points: Vec<u8>,
+    /// The texts of rows; that of the last row is not ended.
     texts: Vec<u8>,
     /// How many characters the text of the last row shows.
     last_row_length: u32,
@@ -218,7 +224,8 @@ fn class_attribute(style: PointStyle) -> &'static [u8] {
     }
 }
 
-/// Returns how many characters a label shows. A character reference counts as one.
+/// Returns how many characters a label shows: a character reference counts as one, and so does each
+/// byte outside one.
 fn character_count(label: &[u8]) -> u32 {
     let mut shown = 0u32;
     let mut is_reference = false;
