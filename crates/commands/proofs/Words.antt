@@ -1,7 +1,7 @@
 -- The names that the proofs of this crate use, exported again from one place.
 pub use Rattle.commands.specs.LineWords.{Words, by_first_word, first_entry_id, line_by_first_word}
 pub use Rattle.commands.specs.CommonLines.{without_text, text_line_or_else}
-pub use Rattle.commands.specs.OfferedEntry.{names_of, numbers_of, text_offer}
+pub use Rattle.commands.specs.OfferedEntry.{charter_authors_of, numbers_of, text_offer}
 pub use Rattle.commands.specs.Pieces.{split_at}
 pub use Rattle.commands.specs.PlayLines.{line_or_common_line, play_without_text, play_line_by, play_line_of, play_text_form, play_only_line}
 pub use Rattle.commands.specs.RemainingLines.{IsAdvanced, RemainingLines}

@@ -27,8 +27,8 @@ numbers_of (w ∷ ws) = do
   Some (n ∷ ns)
 
 -- whether these numbers can be the authors of a charter (its names): 1 to 64 in rising order
-abbrev pub are_names : List ℕ → Bool
-are_names numbers = nat_lt 0 (length numbers) && nat_lt (length numbers) (MAX_NAMES + 1) && is_rising numbers
+abbrev pub are_charter_authors : List ℕ → Bool
+are_charter_authors numbers = nat_lt 0 (length numbers) && nat_lt (length numbers) (MAX_NAMES + 1) && is_rising numbers
 
 -- whether a number is greater than the last one, or there is no last one
 abbrev pub rises : Option ℕ → ℕ → Bool
@@ -36,14 +36,14 @@ rises None n = true
 rises (Some last) n = nat_lt last n
 
 -- the authors that a charter names: 1 to 64 numbers in rising order
-abbrev pub names_of : Words → Option (List ℕ)
-names_of ws = do
+abbrev pub charter_authors_of : Words → Option (List ℕ)
+charter_authors_of ws = do
   names ← numbers_of ws
-  if are_names names then Some names else None
+  if are_charter_authors names then Some names else None
 
 -- K AUTHOR SERIAL NAME ..
 abbrev pub charter_offer : Words → Option OfferedEntry
 charter_offer ws = do
   e ← first_entry_id ws
-  names ← names_of e.1
+  names ← charter_authors_of e.1
   Some (record { node = (e.0).node; entry = Charter (e.0).author (e.0).serial names })

@@ -2,7 +2,7 @@
 ghost use Rattle.std.specs.Prelude.{◌≡◌, Some, None, MatchResult, is_some};
 ghost use Rattle.commands.specs.declared.script.LineFault.TheVariants.{Bad};
 ghost use Rattle.commands.specs.Scripts.{Parses, ParsesLine};
-ghost use Rattle.commands.specs.OfferedEntry.{text_offer, charter_offer, names_of};
+ghost use Rattle.commands.specs.OfferedEntry.{text_offer, charter_offer, charter_authors_of};
 ghost use Rattle.commands.specs.OfferedEntry.{numbers_of, rises};
 
 use crate::line_words::Words;
@@ -54,7 +54,7 @@ pub(crate) fn parse_charter_offer(
     ensures { Parses (charter_offer words.entry) result }
 {
     let entry_id = words.take_entry_id().ok_or(LineFault::Bad)?;
-    if !are_names(words.copy()) {
+    if !are_charter_authors(words.copy()) {
         return Err(LineFault::Bad);
     }
     let names = Names::new(parse_numbers(alloc, words)?).ok_or(LineFault::Bad)?;
@@ -70,8 +70,8 @@ pub(crate) fn parse_charter_offer(
 
 /// Returns whether the words that are left are the authors of a charter (`Names`): 1 to 64 numbers,
 /// each greater than the one before it. Does not allocate.
-fn are_names(mut words: Words<'_>) -> bool
-    ensures { result ≡ is_some (names_of words.entry) }
+fn are_charter_authors(mut words: Words<'_>) -> bool
+    ensures { result ≡ is_some (charter_authors_of words.entry) }
 {
     let mut count = 0usize;
     let mut last = None;

@@ -24,7 +24,7 @@ pub fn text_end(line: &[u8]) -> Option<TextEnd<'_>>
     let mut words = Words::new(line);
     let form = text_form(words.take()?)?;
     // The node, author and serial number of the line.
-    let _at = words.take_entry_id()?;
+    let _entry_id = words.take_entry_id()?;
     end_of(form, words)
 }
 

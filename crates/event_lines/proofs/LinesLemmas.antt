@@ -1,5 +1,5 @@
 -- The line of an event, as `play` parses it.
-use Rattle.event_lines.proofs.Words.{◌≡◌, ℕ, ◌+◌, ◌^◌, ◌<◌, ◌≤◌, ◌==◌, nat_lt, Bool, true, false, ◌&&◌, List, [], ◌∷◌, ◌++◌, codes, decimal, map, Option, Some, None, option_map, option_and_then, if◌then◌else◌, refl, AllByRecursion, join_with_byte, ◌∙◌, ap, arith, length, lt-ltb, join_with_byte-slice_split, MAX_NAMES, Text, Charter, AreNames, is_rising, NodeEntryId, OfferedEntry, TextForm, Rest, Bytes, PlayLine, Common, split_at, Words, last_value, by_first_word, node_of, first_number, one_node, one_number, first_entry_id, without_text, are_names, names_of, numbers_of, line_or_common_line, play_line_by, play_line_of, bytes_before, text_in_form, spaced, node_author_serial_words}
+use Rattle.event_lines.proofs.Words.{◌≡◌, ℕ, ◌+◌, ◌^◌, ◌<◌, ◌≤◌, ◌==◌, nat_lt, Bool, true, false, ◌&&◌, List, [], ◌∷◌, ◌++◌, codes, decimal, map, Option, Some, None, option_map, option_and_then, if◌then◌else◌, refl, AllByRecursion, join_with_byte, ◌∙◌, ap, arith, length, lt-ltb, join_with_byte-slice_split, MAX_NAMES, Text, Charter, AreNames, is_rising, NodeEntryId, OfferedEntry, TextForm, Rest, Bytes, PlayLine, Common, split_at, Words, last_value, by_first_word, node_of, first_number, one_node, one_number, first_entry_id, without_text, are_charter_authors, charter_authors_of, numbers_of, line_or_common_line, play_line_by, play_line_of, bytes_before, text_in_form, spaced, node_author_serial_words}
 use Rattle.commands.specs.declared.common_line.CommonLine.TheVariants.{Offer, Begin, Restart}
 use Rattle.commands.specs.declared.play_line.PlayLine.TheVariants.{Deliver}
 use Rattle.event_lines.proofs.DecimalLemmas.{number_of-decimal}
@@ -55,7 +55,7 @@ charter_line at names = without_text (option_map (λ l. Common l) (option_map (�
 
 abbrev charter_line_at : Option (NodeEntryId × Words) → Option (PlayLine × ℕ)
 charter_line_at at = without_text (option_map (λ l. Common l) (option_map (λ o. Offer o)
-    (option_and_then (λ (e : NodeEntryId × Words). option_and_then (λ names. Some (record { node = (e.0).node; entry = Charter (e.0).author (e.0).serial names })) (names_of e.1)) at)))
+    (option_and_then (λ (e : NodeEntryId × Words). option_and_then (λ names. Some (record { node = (e.0).node; entry = Charter (e.0).author (e.0).serial names })) (charter_authors_of e.1)) at)))
 
 module _ (lines : List (List ℕ)) where
   begin_by : (k : ℕ) → k < 256 → play_line_by lines (codes "begin") (decimal k ∷ []) ≡ Some (Common (Begin k), 0)
@@ -80,7 +80,7 @@ module _ (lines : List (List ℕ)) where
         ∙ (ap (λ o. text_line (record { node = k; author = a; serial = s }) (option_and_then (λ n. bytes_before n lines) o)) (one_number-decimal n small)
         ∙ ap (text_line (record { node = k; author = a; serial = s })) is)
 
-    charter_by : (names : List ℕ) → names_of (map decimal names) ≡ Some names
+    charter_by : (names : List ℕ) → charter_authors_of (map decimal names) ≡ Some names
         → play_line_by lines (codes "charter") (node_author_serial_words k a s ++ map decimal names)
         ≡ Some (Common (Offer (record { node = k; entry = Charter a s names })), 0)
     charter_by names is =
@@ -98,17 +98,17 @@ numbers_of-decimals (n ∷ ns) (small, others) =
 all_three : (a b c : Bool) → a ≡ true → b ≡ true → c ≡ true → (a && b && c) ≡ true
 all_three a b c first second third = ap (λ x. x && b && c) first ∙ (ap (λ x. x && c) second ∙ third)
 
-are_names-AreNames : (ns : List ℕ) → AreNames ns → are_names ns ≡ true
-are_names-AreNames ns h =
+are_charter_authors-AreNames : (ns : List ℕ) → AreNames ns → are_charter_authors ns ≡ true
+are_charter_authors-AreNames ns h =
     let some = h.some in
     let few = h.few in
     all_three (nat_lt 0 (length ns)) (nat_lt (length ns) (MAX_NAMES + 1)) (is_rising ns)
     (lt-ltb 0 (length ns) (omega arith)) (lt-ltb (length ns) (MAX_NAMES + 1) (omega arith)) h.rising
 
-pub names_of-decimals : (ns : List ℕ) → AreNames ns → AllByRecursion (λ n. n < 2 ^ 64) ns → names_of (map decimal ns) ≡ Some ns
-names_of-decimals ns h small =
-    ap (λ o. option_and_then (λ names. if are_names names then Some names else None) o) (numbers_of-decimals ns small)
-    ∙ ap (λ b. if b then Some ns else None) (are_names-AreNames ns h)
+pub charter_authors_of-decimals : (ns : List ℕ) → AreNames ns → AllByRecursion (λ n. n < 2 ^ 64) ns → charter_authors_of (map decimal ns) ≡ Some ns
+charter_authors_of-decimals ns h small =
+    ap (λ o. option_and_then (λ names. if are_charter_authors names then Some names else None) o) (numbers_of-decimals ns small)
+    ∙ ap (λ b. if b then Some ns else None) (are_charter_authors-AreNames ns h)
 
 -- the lines of events are parsed as these events
 
@@ -146,4 +146,4 @@ module _ (k a s : ℕ) (lines : List (List ℕ)) (node : k < 256) (author : a < 
       ≡ Some (Common (Offer (record { node = k; entry = Charter a s names })), 0)
   charter_says names are small free =
       parsed_by (codes "charter" ++ spaced (node_author_serial_words k a s ++ map decimal names)) lines _ _ (split_words (codes "charter") (node_author_serial_words k a s ++ map decimal names) refl free)
-      (charter_by lines k a s node author serial names (names_of-decimals names are small))
+      (charter_by lines k a s node author serial names (charter_authors_of-decimals names are small))

@@ -3,7 +3,7 @@ pub use Rattle.commands.proofs.ScriptsLemmas.{text_passed}
 pub use Rattle.commands.proofs.TextsLemmas.{bytes_found, bytes_rest}
 pub use Rattle.commands.specs.LineWords.{Words, last_value, by_first_word, first_entry_id, node_of, first_number, one_node, one_number}
 pub use Rattle.commands.specs.CommonLines.{without_text}
-pub use Rattle.commands.specs.OfferedEntry.{are_names, names_of, numbers_of}
+pub use Rattle.commands.specs.OfferedEntry.{are_charter_authors, charter_authors_of, numbers_of}
 pub use Rattle.commands.specs.Pieces.{split_at}
 pub use Rattle.commands.specs.PlayLines.{line_or_common_line, play_line_by, play_line_of}
 pub use Rattle.commands.specs.Scripts.{prepended, script_from, script_of, with_line}

@@ -3,7 +3,7 @@ use Rattle.explain.proofs.Words.{nat_lt, nat_tests, ◌≡◌, ◌≢◌, Bool, 
 use Rattle.explain.specs.declared.reason.Reason.TheVariants as reason
 use Rattle.explain.specs.FirstFault.{IsEndReason}
 use Rattle.explain.proofs.RunItemLemmas.{mark_fails, recall_heavy, cite_stuck, recall_item, what_is, found-at}
-use Rattle.verify.specs.StepsByNumber.{named}
+use Rattle.verify.specs.RunsItemByNumber.{named}
 use Rattle.verify.specs.Stops.{IsNotOnly}
 use Rattle.verify.proofs.Words.{take_all, length-map, slice_get-get_or, slice_get_within}
 

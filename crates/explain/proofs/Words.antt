@@ -83,6 +83,6 @@ pub use Rattle.verify.specs.LabelTable.{IsEntry}
 pub use Rattle.verify.specs.Machine.{IsSaved, Results, Runs, State, start}
 pub use Rattle.verify.specs.Proves.{label_or_empty, mandatory_labels}
 pub use Rattle.verify.specs.Right.{IsProvable}
-pub use Rattle.verify.specs.StepsByNumber.{without_cached}
+pub use Rattle.verify.specs.RunsItemByNumber.{without_cached}
 pub use Rattle.verify.specs.Stops.{IsStopped}
 pub use Rattle.verify.specs.declared.label_table.LabelEntry.TheVariants.{Nothing}

@@ -8,12 +8,12 @@ use Rattle.net.specs.declared.event.Event.TheVariants.{Offer, Begin}
 use Rattle.net.specs.declared.fault.StepFault.TheVariants.{Memory, NoNode}
 use Rattle.nodes.specs.Words.{Verdict, Carried, Cell, StepFault, Apart}
 use Rattle.nodes.specs.Desk.{IsPlayFault}
-use Rattle.nodes.specs.Questions.{IsCellAt}
+use Rattle.nodes.specs.Questions.{IsOfNode}
 
--- the outcome of the entry in a cell of node k, as `IsCellAt` says it
+-- the outcome of the entry in a cell of node k, as `IsOfNode` says it
 pub record IsOutcome (k : ℕ) (entry : Entry) (outcome : Option Verdict) : Type 0 where
   pub cell : Cell
-  pub of_node : IsCellAt k cell
+  pub of_node : IsOfNode k cell
   pub outcome_of_cell : IsOutcomeOf cell entry outcome
 
 -- the fault of a question at a node

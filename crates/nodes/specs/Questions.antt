@@ -8,7 +8,7 @@ use Rattle.nodes.specs.declared.questions.NodeStatus.{NodeStatus}
 use Rattle.nodes.specs.Words.{Cell, Carried, Event, SwitchView, world_of, carried_size}
 
 -- the cell is that of node k; that its library is that of its entries (`IsCell`) is not said
-pub record IsCellAt (k : ℕ) (cell : Cell) : Type 0 where
+pub record IsOfNode (k : ℕ) (cell : Cell) : Type 0 where
   pub at : cell.node ≡ k
 
 -- the events of some switch, whose history is taken
@@ -20,7 +20,7 @@ pub record IsHistory (history : List (Event Carried)) : Type 0 where
 -- the state of node k of some switch, and the number of entries that some cell of node k applied
 pub record IsNodeStatus (k : ℕ) (node_status : NodeStatus) : Type 0 where
   pub cell : Cell
-  pub of_node : IsCellAt k cell
+  pub of_node : IsOfNode k cell
   pub applied : node_status.applied ≡ cell.node_library.applied
   pub switch : SwitchView Carried
   pub state : state_after (world_of carried_size switch) k ≡ Some node_status.state

@@ -24,7 +24,7 @@ const FIRST_WAIT: u64 = 1024;
 const MAX_DOUBLINGS: u32 = 9;
 
 /// The number of turns from one query for the outcome to the next. Each query takes the lock that the node's thread needs.
-const TURNS_PER_QUERY: u64 = 64;
+const YIELDS_PER_QUERY: u64 = 64;
 
 /// 2^64 divided by the golden ratio: its multiples modulo 2^64 are far from one another.
 const GOLDEN: u64 = 0x9E37_79B9_7F4A_7C15;
@@ -85,20 +85,20 @@ impl<G: Gate, K: Keep<Carried>> Desk<G, K> {
         }
     }
 
-    /// Returns the outcome of the entry at node `k` as soon as it is known, at the latest after `turns` turns.
+    /// Returns the outcome of the entry at node `k` as soon as it is known, at the latest after `yields` turns.
     fn await_outcome<R: Wait>(
         &self,
         rt: &R,
         k: u8,
         entry: &Entry,
-        turns: u64,
+        yields: u64,
     ) -> Result<Option<Verdict>, StepFault>
         ensures outcome { IfOk result (IsOutcome k entry.now) }
         ensures no_node { self.now ≤ k → result ≡ Err NoNode }
         ensures only_apart { k < self.now → IsOkUnless result Apart }
     {
-        for turn in 0..turns {
-            if turn % TURNS_PER_QUERY == 0 {
+        for yielded in 0..yields {
+            if yielded % YIELDS_PER_QUERY == 0 {
                 let known = self.outcome(rt, k, entry)?;
                 if known.is_some() {
                     return Ok(known);

@@ -3,7 +3,7 @@ ghost use Rattle.std.specs.Prelude.{◌≡◌, ◌≤◌, ◌<◌, ◌⊎◌, Er
 ghost use Rattle.std.specs.Fn.{FnOnceReturnsAt};
 ghost use Rattle.net.specs.declared.fault.StepFault.TheVariants.{Apart, Memory, NoNode};
 ghost use Rattle.cluster.specs.Cell.{Cell};
-ghost use Rattle.nodes.specs.Questions.{IsCellAt, IsHistory, IsNodeStatus};
+ghost use Rattle.nodes.specs.Questions.{IsOfNode, IsHistory, IsNodeStatus};
 
 use crate::desk::Desk;
 use cluster::{NodeCell, ask_on};
@@ -39,7 +39,7 @@ impl<G: Gate, K: Keep<Carried>> Desk<G, K> {
     ) -> Result<T, StepFault>
         requires { F.IsAlwaysCallable question }
         ensures answered { IfOk result (λ answer. (cell : Cell)
-            × IsCellAt k cell × FnOnceReturnsAt F.FnOnce question cell answer) }
+            × IsOfNode k cell × FnOnceReturnsAt F.FnOnce question cell answer) }
         ensures no_node { self.now ≤ k → result ≡ Err NoNode }
         ensures only_apart { k < self.now → IsOkUnless result Apart }
     {

@@ -8,8 +8,8 @@ use cluster::NodeCell;
 #[derive(Drop)]
 pub(crate) struct SharedCell {
     pub cell: NodeCell,
-    /// The number of packets since an allocation first failed for the next entry.
-    packets: u64,
+    /// 0 if no allocation failed for the next entry.
+    packets_since_failure: u64,
     /// The number of packets at which the entry is tried again; 0 if no allocation failed for it.
     next_try: u64,
 }
@@ -21,34 +21,36 @@ impl SharedCell {
     {
         SharedCell {
             cell,
-            packets: 0,
+            packets_since_failure: 0,
             next_try: 0,
         }
     }
 
-    /// Counts `packets` more packets if the next entry is postponed, and returns whether it is to
+    /// Counts `packet_count` more packets if the next entry is postponed, and returns whether it is to
     /// be tried.
-    pub fn is_due_after(&mut self, packets: usize) -> bool
+    pub fn is_due_after(&mut self, packet_count: usize) -> bool
         ensures { self.new.cell ≡ self.old.cell }
     {
         if self.next_try > 0 {
-            self.packets = self.packets.saturating_add(packets as u64);
+            self.packets_since_failure = self
+                .packets_since_failure
+                .saturating_add(packet_count as u64);
         }
-        self.packets >= self.next_try
+        self.packets_since_failure >= self.next_try
     }
 
     /// Postpones the next entry, for which an allocation failed, until twice as many packets have arrived.
     pub fn postpone(&mut self)
         ensures { self.new.cell ≡ self.old.cell }
     {
-        self.next_try = self.packets.saturating_mul(2).max(1);
+        self.next_try = self.packets_since_failure.saturating_mul(2).max(1);
     }
 
     /// Ends the postponement: the next entry is another one, or the node was restarted.
     pub fn clear_postponement(&mut self)
         ensures { self.new.cell ≡ self.old.cell }
     {
-        self.packets = 0;
+        self.packets_since_failure = 0;
         self.next_try = 0;
     }
 }

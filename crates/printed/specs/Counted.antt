@@ -20,5 +20,5 @@ abbrev pub spaced_value_text : Option Carried → List ℕ
 spaced_value_text v = codes " " ++ entry_text (entry_of v)
 
 -- a log of values that packets carry, on one line with its line feed
-abbrev pub learned_text : List (Option Carried) → List ℕ
-learned_text entries = codes "log" ++ flat_map spaced_value_text entries ++ codes "\n"
+abbrev pub carried_log_text : List (Option Carried) → List ℕ
+carried_log_text entries = codes "log" ++ flat_map spaced_value_text entries ++ codes "\n"

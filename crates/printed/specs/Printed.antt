@@ -39,14 +39,14 @@ abbrev pub page_text : ℕ → ℕ → List ℕ
 page_text page count = if count == 1 then [] else (codes " page " ++ decimal page ++ codes " of " ++ decimal count)
 
 -- a ballot, a slot and a value
-abbrev pub vote_text : Ballot → ℕ → Option Carried → List ℕ
-vote_text ballot slot value = ballot_text ballot ++ codes " " ++ decimal slot ++ codes " " ++ entry_text (entry_of value)
+abbrev pub proposal_text : Ballot → ℕ → Option Carried → List ℕ
+proposal_text ballot slot value = ballot_text ballot ++ codes " " ++ decimal slot ++ codes " " ++ entry_text (entry_of value)
 
 abbrev pub body_text : Body Carried → List ℕ
 body_text (Prepare ballot first) = codes "prepare " ++ ballot_text ballot ++ codes " " ++ decimal first
 body_text (Promise ballot page count reports) = codes "promise " ++ ballot_text ballot ++ page_text page count ++ flat_map report_text reports
-body_text (Accept ballot slot value) = codes "accept " ++ vote_text ballot slot value
-body_text (Accepted ballot slot value) = codes "accepted " ++ vote_text ballot slot value
+body_text (Accept ballot slot value) = codes "accept " ++ proposal_text ballot slot value
+body_text (Accepted ballot slot value) = codes "accepted " ++ proposal_text ballot slot value
 body_text (Nack ballot promise) = codes "nack " ++ ballot_text ballot ++ codes " " ++ ballot_text promise
 body_text (Ask slot) = codes "ask " ++ decimal slot
 body_text (Told slot value) = codes "told " ++ decimal slot ++ codes " " ++ entry_text (entry_of value)

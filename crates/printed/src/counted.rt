@@ -1,7 +1,7 @@
 //! Answers of several lines, which begin with their line count, and logs of values that packets
 //! carry.
 ghost use Rattle.std.specs.Prelude.{◌≡◌, ◌++◌, OnOk};
-ghost use Rattle.printed.specs.Counted.{counted_lines_text, learned_text, line_feeds_of};
+ghost use Rattle.printed.specs.Counted.{counted_lines_text, carried_log_text, line_feeds_of};
 
 use crate::packets::push_spaced_value;
 use numbers::push_number;
@@ -28,8 +28,8 @@ fn line_feeds(text: &[u8]) -> usize
 
 /// Appends a log on one line, as `push_log` does. Here its entries are values that packets carry:
 /// `serve` prints those that a node took over from its log.
-pub fn push_learned(text: &mut Vec<u8>, entries: &[Option<Carried>]) -> Result<(), AllocError>
-    ensures { OnOk result (text.new.items ≡ text.old.items ++ learned_text entries.now) }
+pub fn push_carried_log(text: &mut Vec<u8>, entries: &[Option<Carried>]) -> Result<(), AllocError>
+    ensures { OnOk result (text.new.items ≡ text.old.items ++ carried_log_text entries.now) }
 {
     text.extend_from_slice(b"log")?;
     for entry in entries {

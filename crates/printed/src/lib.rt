@@ -29,7 +29,7 @@ pub use answers::{
     push_verdict_line,
 };
 pub use broken_rules::first_broken_rule;
-pub use counted::{push_counted_lines, push_learned};
+pub use counted::{push_carried_log, push_counted_lines};
 pub use outline::outline_text;
 pub use packets::push_packet;
 pub use states::push_state;

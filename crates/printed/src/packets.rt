@@ -2,7 +2,7 @@
 ghost use Rattle.std.specs.Prelude.{◌≡◌, ◌++◌, codes, decimal, flat_map, option_map, OnOk};
 ghost use Rattle.world.specs.Carried.{entry_of};
 ghost use Rattle.printed.specs.Printed.{ballot_text, entry_text, report_text, page_text};
-ghost use Rattle.printed.specs.Printed.{vote_text, body_text, packet_text};
+ghost use Rattle.printed.specs.Printed.{proposal_text, body_text, packet_text};
 
 use library::Entry;
 use numbers::push_number;
@@ -41,12 +41,12 @@ fn push_body(text: &mut Vec<u8>, body: &Body<Carried>) -> Result<(), AllocError>
             ballot,
             slot,
             value,
-        } => push_vote(text, b"accept ", *ballot, *slot, value),
+        } => push_proposal(text, b"accept ", *ballot, *slot, value),
         Body::Accepted {
             ballot,
             slot,
             value,
-        } => push_vote(text, b"accepted ", *ballot, *slot, value),
+        } => push_proposal(text, b"accepted ", *ballot, *slot, value),
         Body::Nack { ballot, promise } => {
             text.extend_from_slice(b"nack ")?;
             push_ballot(text, *ballot)?;
@@ -116,7 +116,7 @@ fn push_report(text: &mut Vec<u8>, report: &SlotReport<Carried>) -> Result<(), A
 }
 
 /// Appends `accept` or `accepted`, a ballot, a slot and a value.
-fn push_vote(
+fn push_proposal(
     text: &mut Vec<u8>,
     word: &[u8],
     ballot: Ballot,
@@ -124,7 +124,7 @@ fn push_vote(
     value: &Option<Carried>,
 ) -> Result<(), AllocError>
     ensures { OnOk result (text.new.items
-        ≡ text.old.items ++ (word.now ++ vote_text ballot slot value.now)) }
+        ≡ text.old.items ++ (word.now ++ proposal_text ballot slot value.now)) }
 {
     text.extend_from_slice(word)?;
     push_ballot(text, ballot)?;

@@ -4,9 +4,9 @@ ghost use Rattle.std.specs.Prelude.{◌≡◌, ◌++◌, ◌≤◌, ℕ, List, E
 ghost use Rattle.cluster.specs.Cell.{Cell};
 ghost use Rattle.net.specs.declared.event.Event.{Event as TakenEvent};
 ghost use Rattle.world.specs.declared.carried.Carried.{Carried as TakenEntry};
-ghost use Rattle.nodes.specs.Questions.{IsCellAt, IsHistory, IsNodeStatus};
+ghost use Rattle.nodes.specs.Questions.{IsOfNode, IsHistory, IsNodeStatus};
 ghost use Rattle.nodes.specs.declared.questions.NodeStatus.{NodeStatus};
-ghost use Rattle.printed.specs.Counted.{learned_text};
+ghost use Rattle.printed.specs.Counted.{carried_log_text};
 ghost use Rattle.printed.specs.Printed.{export_text};
 ghost use Rattle.printed.specs.States.{state_text};
 ghost use Rattle.event_lines.specs.EventLines.{counted_event_lines};
@@ -19,7 +19,7 @@ use crate::why::{Decision, decision_of, push_why};
 use cluster::NodeCell;
 use commands::{NodeEntryId, NodePair, NodeQuestion};
 use event_lines::push_events;
-use printed::{push_export, push_learned, push_state};
+use printed::{push_carried_log, push_export, push_state};
 use std::alloc::{AllocError, Global};
 use std::sync::Wait;
 use world::Carried;
@@ -35,7 +35,7 @@ pub struct AnsweringDesk<'a, R: Wait> {
 impl<R: Wait> AnsweringDesk<'_, R> {
     /// Appends the statements of a node's library.
     pub fn push_export(&self, node: u8, text: &mut Vec<u8>) -> Result<(), Fault>
-        ensures { OnOk result ((cell : Cell) × IsCellAt node cell
+        ensures { OnOk result ((cell : Cell) × IsOfNode node cell
             × (text.new.items ≡ text.old.items ++ export_text cell.node_library.library.statements)) }
     {
         let alloc = self.alloc;
@@ -47,8 +47,8 @@ impl<R: Wait> AnsweringDesk<'_, R> {
 
     /// Appends the entries that a node took over from its log.
     pub fn push_log(&self, node: u8, text: &mut Vec<u8>) -> Result<(), Fault>
-        ensures { OnOk result ((cell : Cell) × IsCellAt node cell
-            × (text.new.items ≡ text.old.items ++ learned_text cell.entries)) }
+        ensures { OnOk result ((cell : Cell) × IsOfNode node cell
+            × (text.new.items ≡ text.old.items ++ carried_log_text cell.entries)) }
     {
         let alloc = self.alloc;
         let log = self.desk.ask(self.rt, node, |cell| log_of(alloc, cell))??;
@@ -71,7 +71,7 @@ impl<R: Wait> AnsweringDesk<'_, R> {
         question: &NodeQuestion,
         text: &mut Vec<u8>,
     ) -> Result<(), Fault>
-        ensures { OnOk result ((cell : Cell) × IsCellAt question.now.node cell × (answer : List ℕ)
+        ensures { OnOk result ((cell : Cell) × IsOfNode question.now.node cell × (answer : List ℕ)
             × IsLabelAnswer cell.node_library.library.statements question.now.kind question.now.label answer
             × (text.new.items ≡ text.old.items ++ answer)) }
     {
@@ -134,9 +134,9 @@ fn export_of(alloc: Global, cell: &NodeCell) -> Result<Vec<u8>, AllocError>
 
 /// Returns the entries of a cell, on one line.
 fn log_of(alloc: Global, cell: &NodeCell) -> Result<Vec<u8>, AllocError>
-    ensures { IfOk result (λ text. text.items ≡ learned_text cell.now.entries) }
+    ensures { IfOk result (λ text. text.items ≡ carried_log_text cell.now.entries) }
 {
     let mut text = Vec::new(alloc);
-    push_learned(&mut text, cell.entries())?;
+    push_carried_log(&mut text, cell.entries())?;
     Ok(text)
 }

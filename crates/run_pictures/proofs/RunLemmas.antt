@@ -1,5 +1,5 @@
 -- The recorded steps of a world when it takes a step.
-use Rattle.run_pictures.proofs.Words.{◌≡◌, ℕ, false, List, [], ◌∷◌, ◌++◌, Option, Some, None, Result, Ok, Err, IfOk, IfSome, IsSomeAnd, OnErr, length, filter, sym, ◌∙◌, ap, Event, StepFault, History, with_event, world_of, packets_after, Entry, Verdict, Carried, carried_size, WorldView, new_world, next_entry, IsApplied, Step, StepStart, ended_of, WorldOrFault, step_start_of, is_event, learned_by, node_of_event, step_of, steps_of, IsRecorded, packets_of}
+use Rattle.run_pictures.proofs.Words.{◌≡◌, ℕ, false, List, [], ◌∷◌, ◌++◌, Option, Some, None, Result, Ok, Err, IfOk, IfSome, IsSomeAnd, OnErr, length, filter, sym, ◌∙◌, ap, Event, StepFault, History, with_event, world_of, packets_after, Entry, Verdict, Carried, carried_size, WorldView, new_world, next_entry, IsApplied, Step, StepStart, ended_of, WorldOrFault, step_start_of, is_event, learned_by, node_of_step, step_of, steps_of, IsRecorded, packets_of}
 use Rattle.world.specs.WorldView.{after_event}
 use Rattle.run_pictures.proofs.StepsLemmas.{next_is, with_event_step, with_application_step}
 
@@ -22,7 +22,7 @@ step_is old new e start posted learned step ended begins taken counted learns =
     let same : new.history ≡ with_event old.history e = ap (λ (r : WorldView). r.history) taken in
     let reached : world_of carried_size new.history ≡ world_of carried_size (with_event old.history e) = ap (λ (t : History Carried). world_of carried_size t) same in
     let count : posted ≡ length (packets_after (world_of carried_size (with_event old.history e))) = counted ∙ ap (λ (r : WorldOrFault). length (packets_after r)) reached in
-    let more : learned ≡ learned_by (world_of carried_size (with_event old.history e)) (node_of_event (world_of carried_size old.history) e) =
+    let more : learned ≡ learned_by (world_of carried_size (with_event old.history e)) (node_of_step (world_of carried_size old.history) e) =
     learns ∙ (ap (λ (r : WorldOrFault). learned_by r start.node) reached
     ∙ ap (λ (b : StepStart). learned_by (world_of carried_size (with_event old.history e)) b.node) begins) in
     ended ∙ (ap (λ (b : StepStart). ended_of b posted learned) begins

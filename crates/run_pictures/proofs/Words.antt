@@ -9,7 +9,7 @@ pub use Rattle.net.specs.declared.fault.StepFault.{StepFault}
 pub use Rattle.run_pictures.specs.StepStart.{ended_of}
 pub use Rattle.run_pictures.specs.Marks.{Packets, stump, stump_marks, stump_marks_from}
 pub use Rattle.run_pictures.specs.RunView.{IsRecorded, packets_of}
-pub use Rattle.run_pictures.specs.Steps.{WorldOrFault, act_of, step_start_of, is_event, is_event_act, learned_by, node_of_event, step_of, steps_from, steps_of, after_one_more}
+pub use Rattle.run_pictures.specs.Steps.{WorldOrFault, act_of, step_start_of, is_event, is_event_act, learned_by, node_of_step, step_of, steps_from, steps_of, after_one_more}
 pub use Rattle.run_pictures.specs.declared.mark.Mark.{Mark}
 pub use Rattle.run_pictures.specs.declared.step.StepStart.{StepStart}
 pub use Rattle.run_pictures.specs.declared.step.Step.{Step}

@@ -51,7 +51,7 @@ break_marks row s (Apply slot verdict) = []
 
 -- the mark of the slots by which the log of its node grew in the step, if there are any
 abbrev pub learned_marks : ℕ → Step → List Mark
-learned_marks row s = if nat_lt s.learned_before s.learned then Learned (step_point row s) s.learned_before s.learned ∷ [] else []
+learned_marks row s = if nat_lt s.log_len_before s.log_len_after then Learned (step_point row s) s.log_len_before s.log_len_after ∷ [] else []
 
 -- the arrow of packet n, delivered in a row: from the row of the shown step that posted it, or from no row if that step is not shown
 abbrev pub arrow : List Step → ℕ → ℕ → Option (Packet Carried) → List Mark
@@ -85,12 +85,12 @@ abbrev pub stump_marks : Packets → List Step → ℕ → Step → List Mark
 stump_marks packets shown row s = stump_marks_from packets shown row s s.first_post (s.end_post - s.first_post)
 
 -- the point of a step, and the break of a restart
-abbrev pub point_marks : ℕ → Step → List Mark
-point_marks row s = Point (step_point row s) ∷ [] ++ break_marks row s s.act
+abbrev pub point_and_break_marks : ℕ → Step → List Mark
+point_and_break_marks row s = Point (step_point row s) ∷ [] ++ break_marks row s s.act
 
 -- the marks of the step in a row
 abbrev pub step_marks : Packets → List Step → ℕ → Step → List Mark
-step_marks packets shown row s = point_marks row s ++ arrow_marks packets shown row s.act ++ learned_marks row s ++ stump_marks packets shown row s
+step_marks packets shown row s = point_and_break_marks row s ++ arrow_marks packets shown row s.act ++ learned_marks row s ++ stump_marks packets shown row s
 
 -- the marks of the last argument, the shown steps from a row on
 abbrev pub marks_from : Packets → List Step → ℕ → List Step → List Mark

@@ -7,11 +7,11 @@ use Rattle.run_pictures.specs.declared.step.StepStart.{StepStart}
 
 -- the step, given the number of packets posted and the number of entries of its node's log after it
 abbrev pub ended_of : StepStart → ℕ → ℕ → Step
-ended_of start end_post learned = record {
+ended_of start end_post log_len_after = record {
   node = start.node;
   act = start.act;
   first_post = start.first_post;
   end_post = end_post;
-  learned_before = start.learned_before;
-  learned = learned;
+  log_len_before = start.log_len_before;
+  log_len_after = log_len_after;
 }

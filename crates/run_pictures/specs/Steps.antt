@@ -34,12 +34,12 @@ receiver_of None = 0
 receiver_of (Some p) = p.to
 
 -- the node of an event; for a delivery, the receiver of the packet, or 0 if there is no such packet
--- (`node_of_event` of `net` is None there)
-abbrev pub node_of_event : WorldOrFault → Event Carried → ℕ
-node_of_event r (Offer k entry) = k
-node_of_event r (Begin k) = k
-node_of_event r (Deliver number) = receiver_of (slice_get (packets_after r) number)
-node_of_event r (Restart k) = k
+-- (`node_of_step` of `net` is None there)
+abbrev pub node_of_step : WorldOrFault → Event Carried → ℕ
+node_of_step r (Offer k entry) = k
+node_of_step r (Begin k) = k
+node_of_step r (Deliver number) = receiver_of (slice_get (packets_after r) number)
+node_of_step r (Restart k) = k
 
 -- the number of entries of the log of a node in a state, or 0 if there is no node
 abbrev pub learned_of : Option NodeState → ℕ
@@ -60,15 +60,15 @@ act_of index (Restart k) = Restarting
 -- the fields of the step of the event at an index that are known in the world before it
 abbrev pub step_start_of : ℕ → WorldOrFault → Event Carried → StepStart
 step_start_of index before e = record {
-  node = node_of_event before e;
+  node = node_of_step before e;
   act = act_of index e;
   first_post = length (packets_after before);
-  learned_before = learned_by before (node_of_event before e);
+  log_len_before = learned_by before (node_of_step before e);
 }
 
 -- the step of the event at an index, from the world before it to the world reached by it
 abbrev pub step_of : ℕ → WorldOrFault → Event Carried → WorldOrFault → Step
-step_of index before e reached = ended_of (step_start_of index before e) (length (packets_after reached)) (learned_by reached (node_of_event before e))
+step_of index before e reached = ended_of (step_start_of index before e) (length (packets_after reached)) (learned_by reached (node_of_step before e))
 
 -- the steps of some events, the first of which is at an index, after a world
 abbrev pub steps_from : ℕ → WorldOrFault → List (Event Carried) → List Step

@@ -3,7 +3,7 @@ ghost use Rattle.std.specs.Prelude.{◌≡◌, ◌≤◌, ◌+◌, ◌++◌, [],
 ghost use Rattle.std.specs.List.{list_any, position_from};
 ghost use Rattle.timelines.specs.declared.grid.TheConstants.{MAX_ROWS};
 ghost use Rattle.run_pictures.specs.Marks.{arrow, arrow_marks, break_marks, delivers, delivers_act, learned_marks, marks_from, marks_of};
-ghost use Rattle.run_pictures.specs.Marks.{point_marks, posts, step_point, step_marks, stump, stump_marks, stump_at};
+ghost use Rattle.run_pictures.specs.Marks.{point_and_break_marks, posts, step_point, step_marks, stump, stump_marks, stump_at};
 ghost use Rattle.run_pictures.specs.RunView.{packets_of};
 
 use crate::mark::{ArrowStart, Mark, StepPoint};
@@ -58,7 +58,7 @@ fn push_step(
     ensures { OnOk result (marks.new.items
         ≡ marks.old.items ++ step_marks (packets_of world.now) shown.now row step) }
 {
-    push_point(marks, row, step)?;
+    push_point_and_break(marks, row, step)?;
     push_arrow_of_act(marks, world, shown, row, step.act)?;
     push_learned(marks, row, step)?;
     push_stumps(marks, world, shown, row, step)
@@ -73,8 +73,8 @@ fn push_mark(marks: &mut Vec<Mark>, mark: Mark) -> Result<(), AllocError>
 }
 
 /// Appends the point of a step, and the break of a restart.
-fn push_point(marks: &mut Vec<Mark>, row: usize, step: Step) -> Result<(), AllocError>
-    ensures { OnOk result (marks.new.items ≡ marks.old.items ++ point_marks row step) }
+fn push_point_and_break(marks: &mut Vec<Mark>, row: usize, step: Step) -> Result<(), AllocError>
+    ensures { OnOk result (marks.new.items ≡ marks.old.items ++ point_and_break_marks row step) }
 {
     push_mark(
         marks,
@@ -116,13 +116,13 @@ fn push_break(marks: &mut Vec<Mark>, row: usize, step: Step) -> Result<(), Alloc
 fn push_learned(marks: &mut Vec<Mark>, row: usize, step: Step) -> Result<(), AllocError>
     ensures { OnOk result (marks.new.items ≡ marks.old.items ++ learned_marks row step) }
 {
-    if step.learned_before < step.learned {
+    if step.log_len_before < step.log_len_after {
         push_mark(
             marks,
             Mark::Learned {
                 at: step_point_of(row, step),
-                first: step.learned_before,
-                end: step.learned,
+                first: step.log_len_before,
+                end: step.log_len_after,
             },
         )
     } else {

@@ -6,7 +6,7 @@ ghost use Rattle.net.specs.declared.fault.StepFault.TheVariants.{Memory};
 ghost use Rattle.world.specs.Carried.{value_event, carried_size};
 ghost use Rattle.world.specs.WorldView.{new_world};
 ghost use Rattle.timelines.specs.declared.grid.TheConstants.{MAX_ROWS};
-ghost use Rattle.run_pictures.specs.Steps.{act_of, step_start_of, is_event, learned_by, node_of_event, receiver_of, steps_of};
+ghost use Rattle.run_pictures.specs.Steps.{act_of, step_start_of, is_event, learned_by, node_of_step, receiver_of, steps_of};
 
 use crate::mark::Mark;
 use crate::marks::collect_marks;
@@ -74,9 +74,9 @@ impl Run {
         self.steps.reserve(1)?;
         let start = step_start(&self.world, self.posted, &event)?;
         let posted = self.world.step(event)?;
-        let learned = learned_at(&self.world, start.node);
+        let log_len = log_len_at(&self.world, start.node);
         self.posted = posted;
-        self.steps.push_reserved(start.ended(posted, learned));
+        self.steps.push_reserved(start.ended(posted, log_len));
         Ok(())
     }
 
@@ -87,14 +87,14 @@ impl Run {
     #[tactic(auto, using(crate::proofs::RunLemmas::application_recorded, crate::proofs::RunLemmas::same_recorded))]
     pub fn apply_next(&mut self, k: u8) -> Result<(), StepFault>
         ensures same { OnErr result (self.new ≡ self.old) }
-        ensures taken { self.new.world.history ≡ self.old.world.history }
+        ensures same_history { self.new.world.history ≡ self.old.world.history }
     {
         self.steps.reserve(1)?;
         let slot = self.world.applied(k)?;
-        let learned = self.world.state(k)?.log_len;
+        let log_len = self.world.state(k)?.log_len;
         if let Some(verdict) = apply_on(&mut self.world, k)? {
             self.steps
-                .push_reserved(application_step(k, learned, slot, verdict));
+                .push_reserved(application_step(k, log_len, slot, verdict));
         }
         Ok(())
     }
@@ -139,18 +139,18 @@ fn step_start(world: &World, posted: u64, event: &Event<Entry>) -> Result<StepSt
     ensures node { IfOk result (λ start. start.node < length world.now.history.weights) }
 {
     let node = node_of(world, event);
-    let learned_before = world.state(node)?.log_len;
+    let log_len_before = world.state(node)?.log_len;
     Ok(StepStart {
         node,
         act: act(event, world.history().len() as u64),
         first_post: posted,
-        learned_before,
+        log_len_before,
     })
 }
 
 /// Returns the node of an event, or 0 for the delivery of a packet that does not exist.
 fn node_of(world: &World, event: &Event<Entry>) -> u8
-    ensures { result ≡ node_of_event (world_of carried_size world.now.history) (value_event event.now) }
+    ensures { result ≡ node_of_step (world_of carried_size world.now.history) (value_event event.now) }
 {
     match event {
         Event::Offer(k, _) => *k,
@@ -183,7 +183,7 @@ fn act(event: &Event<Entry>, index: u64) -> Act
 }
 
 /// Returns the number of entries of node `k`'s log.
-fn learned_at(world: &World, k: u8) -> u32
+fn log_len_at(world: &World, k: u8) -> u32
     requires { k < length world.now.history.weights }
     ensures { result ≡ learned_by (world_of carried_size world.now.history) k }
 {
@@ -195,14 +195,14 @@ fn learned_at(world: &World, k: u8) -> u32
 
 /// Calls `World::apply_next`, with only those of its clauses that `Run::apply_next` needs.
 fn apply_on(world: &mut World, k: u8) -> Result<Option<Verdict>, StepFault>
-    ensures taken { world.new.history ≡ world.old.history }
+    ensures same_history { world.new.history ≡ world.old.history }
     ensures same { OnErr result (world.new ≡ world.old) }
 {
     world.apply_next(k)
 }
 
-/// Returns the step in which a node, whose log has `learned` entries, applies the entry of a slot.
-fn application_step(node: u8, learned: u32, slot: u32, verdict: Verdict) -> Step
+/// Returns the step in which a node, whose log has `log_len` entries, applies the entry of a slot.
+fn application_step(node: u8, log_len: u32, slot: u32, verdict: Verdict) -> Step
     ensures { is_event result ≡ false }
 {
     Step {
@@ -210,7 +210,7 @@ fn application_step(node: u8, learned: u32, slot: u32, verdict: Verdict) -> Step
         act: Act::Apply { slot, verdict },
         first_post: 0,
         end_post: 0,
-        learned_before: learned,
-        learned,
+        log_len_before: log_len,
+        log_len_after: log_len,
     }
 }

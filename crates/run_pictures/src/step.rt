@@ -19,9 +19,9 @@ pub struct Step {
     pub end_post: u64,
     /// The number of entries of the node's log before the step. A log ends before the first gap: a
     /// value learned beyond it is not counted.
-    pub learned_before: u32,
+    pub log_len_before: u32,
     /// The number of entries of the node's log after the step: 0 after a restart.
-    pub learned: u32,
+    pub log_len_after: u32,
 }
 
 /// The kind of a step: an event, or the application of an entry.
@@ -45,21 +45,21 @@ pub(crate) struct StepStart {
     pub(crate) node: u8,
     pub(crate) act: Act,
     pub(crate) first_post: u64,
-    pub(crate) learned_before: u32,
+    pub(crate) log_len_before: u32,
 }
 
 impl StepStart {
     /// Returns the step, given the fields that are known after the event.
-    pub(crate) fn ended(self, end_post: u64, learned: u32) -> Step
-        ensures { result ≡ ended_of self end_post learned }
+    pub(crate) fn ended(self, end_post: u64, log_len_after: u32) -> Step
+        ensures { result ≡ ended_of self end_post log_len_after }
     {
         Step {
             node: self.node,
             act: self.act,
             first_post: self.first_post,
             end_post,
-            learned_before: self.learned_before,
-            learned,
+            log_len_before: self.log_len_before,
+            log_len_after,
         }
     }
 }

@@ -85,4 +85,4 @@ pub use Rattle.verify.specs.Plan.{pick}
 pub use Rattle.verify.specs.ReadPlaces.{ReadsAll}
 pub use Rattle.verify.specs.ResultPlaces.{below, top}
 pub use Rattle.verify.specs.Right.{Derives, IsRight}
-pub use Rattle.verify.specs.StepsByNumber.{AreNamed}
+pub use Rattle.verify.specs.RunsItemByNumber.{AreNamed}

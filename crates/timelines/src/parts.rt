@@ -133,20 +133,24 @@ pub(crate) fn push_break(text: &mut Vec<u8>, at: GridPoint) -> Result<(), AllocE
     text.extend_from_slice(b"h14\"/>\n")
 }
 
-/// Appends a point; `class` is a whole attribute of the element with a space before it, or empty.
+/// Appends a point; `class_attribute` is a whole attribute of the element with a space before it, or empty.
 pub(crate) fn push_point(
     text: &mut Vec<u8>,
     at: GridPoint,
-    class: &[u8],
+    class_attribute: &[u8],
 ) -> Result<(), AllocError> {
     text.extend_from_slice(b"<circle")?;
-    text.extend_from_slice(class)?;
+    text.extend_from_slice(class_attribute)?;
     push_two_numbered(text, b" cx=\"", at.x(), b"\" cy=\"", at.y())?;
     text.extend_from_slice(b"\" r=\"4\"/>\n")
 }
 
 /// Appends the number of a row at the left, and the start of its text.
-pub(crate) fn push_row(text: &mut Vec<u8>, at: GridPoint, number: u64) -> Result<(), AllocError> {
+pub(crate) fn push_row_start(
+    text: &mut Vec<u8>,
+    at: GridPoint,
+    number: u64,
+) -> Result<(), AllocError> {
     let base = at.y() + 4;
     push_numbered(text, b"<text class=\"r\" x=\"40\" y=\"", base)?;
     push_numbered(text, b"\">", number)?;

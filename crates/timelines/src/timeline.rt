@@ -1,8 +1,8 @@
 //! A picture that is drawn row by row.
 use crate::grid::{GridPoint, picture_width, row_y};
 use crate::parts::{
-    push_arrow, push_break, push_node, push_numbered, push_point, push_row, push_span, push_stump,
-    push_stump_numbers,
+    push_arrow, push_break, push_node, push_numbered, push_point, push_row_start, push_span,
+    push_stump, push_stump_numbers,
 };
 use crate::style::{END, HEAD, STYLE};
 use numbers::push_number;
@@ -40,7 +40,7 @@ pub struct Timeline {
     /// Arrows, stumps and breaks, which are drawn below points and texts.
     lines: Vec<u8>,
     /// Points, and the numbers of stumps.
-    points: Vec<u8>,
+    points_and_numbers: Vec<u8>,
     /// The texts of rows; that of the last row is not ended.
     texts: Vec<u8>,
     /// How many characters the text of the last row shows.
@@ -68,7 +68,7 @@ impl Timeline {
             last_point: GridPoint { node: 0, row: None },
             stumps: Vec::new(alloc),
             lines: Vec::new(alloc),
-            points: Vec::new(alloc),
+            points_and_numbers: Vec::new(alloc),
             texts: Vec::new(alloc),
             last_row_length: 0,
             longest_row_length: 0,
@@ -88,8 +88,8 @@ impl Timeline {
             node,
             row: Some(self.rows),
         };
-        push_point(&mut self.points, at, class_attribute(style))?;
-        push_row(&mut self.texts, at, number)?;
+        push_point(&mut self.points_and_numbers, at, class_attribute(style))?;
+        push_row_start(&mut self.texts, at, number)?;
         self.texts.extend_from_slice(label)?;
         self.last_point = at;
         self.last_row_length = character_count(label);
@@ -163,7 +163,7 @@ impl Timeline {
                 stump.titles.as_slice(),
             )?;
             push_stump_numbers(
-                &mut self.points,
+                &mut self.points_and_numbers,
                 self.last_point,
                 stump.to,
                 stump.numbers.as_slice(),
@@ -199,7 +199,7 @@ impl Timeline {
             push_node(&mut svg, node, bottom)?;
         }
         svg.extend_from_slice(self.lines.as_slice())?;
-        svg.extend_from_slice(self.points.as_slice())?;
+        svg.extend_from_slice(self.points_and_numbers.as_slice())?;
         svg.extend_from_slice(self.texts.as_slice())?;
         svg.extend_from_slice(END)?;
         Ok(svg)

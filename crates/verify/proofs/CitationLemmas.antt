@@ -1,5 +1,5 @@
 -- The citation of an assertion when the results are lists of numbers.
-use Rattle.verify.proofs.Words.{◌≡◌, ℕ, ◌-◌, ◌<◌, ◌≤◌, Bool, true, false, List, [], ◌++◌, length, map, get_or, slice_get, Some, sym, ◌∙◌, ap, subst, arith, length-append, length-map, map-append, Name, Stmt, Expr, Database, stmt_at, before, expr_of, is_assertion, is_variable, name_at, decode, HasAssertion, mandatory_groups, Images, applied, CodeImages, code_apply, images_of_names, are_groups_disjoint, Carries, IsInstance, premises, HasLegalProperties, Cite, substitution_over_names, Float, IsWellTyped, IsTyped, AreRead, HypothesesMatch, named, AreNamed, StepsByNumber, Results, Cites, of_hypothesis, of_assertion, below, top, Adds, some-same, true≢false, AreOver, MayCite, HasCited, Assertion, ProofContext, Numbered, IsCitedBy, AssertionView}
+use Rattle.verify.proofs.Words.{◌≡◌, ℕ, ◌-◌, ◌<◌, ◌≤◌, Bool, true, false, List, [], ◌++◌, length, map, get_or, slice_get, Some, sym, ◌∙◌, ap, subst, arith, length-append, length-map, map-append, Name, Stmt, Expr, Database, stmt_at, before, expr_of, is_assertion, is_variable, name_at, decode, HasAssertion, mandatory_groups, Images, applied, CodeImages, code_apply, images_of_names, are_groups_disjoint, Carries, IsInstance, premises, HasLegalProperties, Cite, substitution_over_names, Float, IsWellTyped, IsTyped, AreRead, HypothesesMatch, named, AreNamed, RunsItemByNumber, Results, Cites, of_hypothesis, of_assertion, below, top, Adds, some-same, true≢false, AreOver, MayCite, HasCited, Assertion, ProofContext, Numbered, IsCitingViewOf, AssertionView}
 use Rattle.verify.proofs.LabelTableLemmas.{has_with}
 use Rattle.verify.proofs.RequiredHypotheses.{required-lengths}
 use Rattle.verify.proofs.CitingLemmas.{of_variables, apply-τ, disjoint-τ, premises-read, premise-typed, fits-agree, conclusion-agrees, disjoint-agrees, read-over}
@@ -15,7 +15,7 @@ pub record Meets (S : Database) (names : List Name) (at a : ℕ) (c : AssertionV
   pub disjoint : (ρ : CodeImages) → AreRead c.typecodes.now c.hypotheses (top (length c.hypotheses) stack) ρ → are_groups_disjoint (before S at) (images_of_names names ρ) (map (decode names) c.groups) ≡ true
   pub gives : (ρ : CodeImages) → AreRead c.typecodes.now c.hypotheses (top (length c.hypotheses) stack) ρ → f ≡ decode names (code_apply ρ c.conclusion.now)
 
-module _ (S : Database) (names : List Name) (at a : ℕ) (s : Stmt) (c : AssertionView) (legal : HasLegalProperties S names) (bound : IsWellTyped S a s) (is : IsCitedBy S names a s c) where
+module _ (S : Database) (names : List Name) (at a : ℕ) (s : Stmt) (c : AssertionView) (legal : HasLegalProperties S names) (bound : IsWellTyped S a s) (is : IsCitingViewOf S names a s c) where
   abbrev n : ℕ
   n = length c.hypotheses
 
@@ -62,7 +62,7 @@ module _ (S : Database) (names : List Name) (at a : ℕ) (s : Stmt) (c : Asserti
       → n ≤ length old.stack → AreRead c.typecodes.now c.hypotheses (top n old.stack) ρ → HypothesesMatch S (images_of_names names ρ) c.hypotheses (map (decode names) (top n old.stack))
       → are_groups_disjoint (before S at) (images_of_names names ρ) (map (decode names) c.groups) ≡ true
       → Adds ok old new (below n old.stack) (code_apply ρ c.conclusion.now)
-      → StepsByNumber ok S at names (Cite label) old new
+      → RunsItemByNumber ok S at names (Cite label) old new
   goes-assertion true old new label ρ an carries has earlier many read fits disjoint adds =
       let es = top n old.stack in
       let e = code_apply ρ c.conclusion.now in
@@ -92,11 +92,11 @@ module _ (S : Database) (names : List Name) (at a : ℕ) (s : Stmt) (c : Asserti
       omega (arith, heavy, l, w)
 
   goes-not : (old new : Results ℕ) (label : Name) → AreNamed names old → Carries S a s label → HasAssertion S a s
-      → ((f : Expr) → Meets S names at a c old.stack f → ⊥) → StepsByNumber false S at names (Cite label) old new
+      → ((f : Expr) → Meets S names at a c old.stack f → ⊥) → RunsItemByNumber false S at names (Cite label) old new
   goes-not old new label an carries has none = λ next p. absurd (none p.1 (meets-step old label p.0 p.1 an carries has p.2))
 
 -- the lemmas above, from the conditions under which the code cites (`MayCite`)
-module _ (t : ProofContext) (a : ℕ) (about : Numbered) (old : Results ℕ) (may : MayCite t a about old) (c : AssertionView) (cited : (s : Stmt) → stmt_at t.frames.now.statements a ≡ Some s → IsCitedBy t.frames.now.statements t.frames.now.names a s c) where
+module _ (t : ProofContext) (a : ℕ) (about : Numbered) (old : Results ℕ) (may : MayCite t a about old) (c : AssertionView) (cited : (s : Stmt) → stmt_at t.frames.now.statements a ≡ Some s → IsCitingViewOf t.frames.now.statements t.frames.now.names a s c) where
   abbrev count : ℕ
   count = length c.hypotheses
 

@@ -1,5 +1,5 @@
 -- An assertion may be cited with any lists of variables that have exactly its mandatory pairs.
-use Rattle.verify.proofs.Words.{◌≡◌, ℕ, suc, ◌<◌, Bool, true, false, not, ◌&&◌, ◌==◌, List, [], ◌∷◌, length, map, slice_get, Some, refl, sym, ◌∙◌, ap, subst, true≢false, inl, inr, arith, list_any, and_from, and_parts, or_cases, or_left, or_right, not-true, false_from_ne_true, eqb-true, both_ways, slice_get_within, some-same, Name, name_eq, has_name, name_same, same_name, name_at, decode, Stmt, Database, stmt_at, before, hypotheses, mandatory_groups, together, is_mandatory_pair, groups-pairs, disjoint_condition_law, Images, are_groups_disjoint, AllBelow, AreBelow, has_both, Hypothesis, IsWellTyped, HasFloat, HasAssertion, AreNumberedHypotheses, HasLegalProperties, AssertionView, IsCitingView, IsCitedBy}
+use Rattle.verify.proofs.Words.{◌≡◌, ℕ, suc, ◌<◌, Bool, true, false, not, ◌&&◌, ◌==◌, List, [], ◌∷◌, length, map, slice_get, Some, refl, sym, ◌∙◌, ap, subst, true≢false, inl, inr, arith, list_any, and_from, and_parts, or_cases, or_left, or_right, not-true, false_from_ne_true, eqb-true, both_ways, slice_get_within, some-same, Name, name_eq, has_name, name_same, same_name, name_at, decode, Stmt, Database, stmt_at, before, hypotheses, mandatory_groups, together, is_mandatory_pair, groups-pairs, disjoint_condition_law, Images, are_groups_disjoint, AllBelow, AreBelow, has_both, Hypothesis, IsWellTyped, HasFloat, HasAssertion, AreNumberedHypotheses, HasLegalProperties, AssertionView, IsCitingView, IsCitingViewOf}
 use Rattle.verify.proofs.RequiredHypotheses.{required-at, float-number}
 
 -- ---- lists of names with the same pairs
@@ -156,7 +156,7 @@ module _ (S : Database) (names : List Name) (a : ℕ) (s : Stmt) (typecodes : Li
     pub pairs-say : (D : Database) (σ : Images) → are_groups_disjoint D σ (map (decode names) gs) ≡ are_groups_disjoint D σ Gs
     pairs-say D σ = say-same D σ (map (decode names) gs) Gs (λ x y. both_ways _ _ (listed-pair x y) (pair-listed x y))
 
-pub cited_pairs : (S : Database) (names : List Name) (a : ℕ) (s : Stmt) (c : AssertionView) → IsWellTyped S a s → IsCitingView S names a s c → IsCitedBy S names a s c
+pub cited_pairs : (S : Database) (names : List Name) (a : ℕ) (s : Stmt) (c : AssertionView) → IsWellTyped S a s → IsCitingView S names a s c → IsCitingViewOf S names a s c
 cited_pairs S names a s c bound is = record {
   numbered_hypotheses = is.numbered_hypotheses;
   conclusion = is.conclusion;

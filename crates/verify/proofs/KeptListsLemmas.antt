@@ -1,5 +1,5 @@
 -- The lists that a checker keeps are right for citations of their assertions.
-use Rattle.verify.proofs.Words.{◌≡◌, ℕ, zero, suc, ◌+◌, ◌<◌, ◌≤◌, Bool, true, false, ◌&&◌, ◌||◌, ◌==◌, List, [], ◌∷◌, ◌++◌, length, length-append, map, take, take_all, take_more, map-append, Hypothesis, get_or, slice_get, Some, refl, sym, ap, subst, ◌∙◌, arith, and_from, list_all, list_any, same_Some, get_or_from_slice_get, slice_get_within, inl, inr, Name, Stmt, Database, stmt_at, before, expr_of, name_at, decode, name_eq, name_same, mandatory_groups, Images, image, AllBelow, AreBelow, IsViewOf, are_disjoint, is_group_disjoint, are_groups_disjoint, list_all-append, list_all-map, list_all_more, list_any_at, and_parts, eqb-true, or_cases, slice_range, cut-more, cut-push, extends-refl, range-behind, spans-push, decoded_hypothesis, AreSpansIn, cut, BufferPart, AssertionView, has_both, is_paired, are_covered, AreSameCondition, IsCitedBy, CitationLists, AreMadeOf, AreListsOf, AreKeptLists, IsCacheFor, CheckerCache, AreFacts, HasListsAt}
+use Rattle.verify.proofs.Words.{◌≡◌, ℕ, zero, suc, ◌+◌, ◌<◌, ◌≤◌, Bool, true, false, ◌&&◌, ◌||◌, ◌==◌, List, [], ◌∷◌, ◌++◌, length, length-append, map, take, take_all, take_more, map-append, Hypothesis, get_or, slice_get, Some, refl, sym, ap, subst, ◌∙◌, arith, and_from, list_all, list_any, same_Some, get_or_from_slice_get, slice_get_within, inl, inr, Name, Stmt, Database, stmt_at, before, expr_of, name_at, decode, name_eq, name_same, mandatory_groups, Images, image, AllBelow, AreBelow, IsViewOf, are_disjoint, is_group_disjoint, are_groups_disjoint, list_all-append, list_all-map, list_all_more, list_any_at, and_parts, eqb-true, or_cases, slice_range, cut-more, cut-push, extends-refl, range-behind, spans-push, decoded_hypothesis, AreSpansIn, cut, BufferPart, AssertionView, has_both, is_paired, are_covered, AreSameCondition, IsCitingViewOf, CitationLists, AreMadeOf, AreListsOf, AreKeptLists, IsCacheFor, CheckerCache, AreFacts, HasListsAt}
 
 -- ---- the pairs of lists
 
@@ -171,14 +171,14 @@ at-end ls l position same = record {
     last [] = refl
     last (k ∷ ks) = last ks
 
-pub made-of : (S : Database) (names : List Name) (a : ℕ) (s : Stmt) (c : AssertionView) (l : CitationLists) → IsCitedBy S names a s c → AreMadeOf a c l → AreListsOf S names l s
+pub made-of : (S : Database) (names : List Name) (a : ℕ) (s : Stmt) (c : AssertionView) (l : CitationLists) → IsCitingViewOf S names a s c → AreMadeOf a c l → AreListsOf S names l s
 made-of S names a s c l is made = record {
   hypotheses_of = rw (made.at, made.typecodes_same, made.hypotheses_same) is.numbered_hypotheses;
   disjoint = λ D σ. made.same names D σ ∙ (is.groups D σ ∙ ap (λ (b : ℕ). are_groups_disjoint D σ (mandatory_groups (before S b) s)) (sym made.at));
   below_names = made.below (length names) is.groups_below;
 }
 
-pub cited-plain : (S : Database) (names : List Name) (a : ℕ) (s : Stmt) (c : AssertionView) → IsViewOf S names a s c → IsCitedBy S names a s c
+pub cited-plain : (S : Database) (names : List Name) (a : ℕ) (s : Stmt) (c : AssertionView) → IsViewOf S names a s c → IsCitingViewOf S names a s c
 cited-plain S names a s c is = record {
   numbered_hypotheses = is.numbered_hypotheses;
   conclusion = is.conclusion;
@@ -188,7 +188,7 @@ cited-plain S names a s c is = record {
 }
 
 pub cited-kept : (S : Database) (names : List Name) (a : ℕ) (s : Stmt) (l : CitationLists) (c : AssertionView) → AreListsOf S names l s → l.position ≡ a → c.typecodes.now ≡ l.typecodes → c.hypotheses ≡ l.numbered_hypotheses → c.groups ≡ l.groups
-    → decode names c.conclusion.now ≡ expr_of s → AreBelow (length names) c.conclusion.now → IsCitedBy S names a s c
+    → decode names c.conclusion.now ≡ expr_of s → AreBelow (length names) c.conclusion.now → IsCitingViewOf S names a s c
 cited-kept S names a s l c are at typecodes numbered_hypotheses groups same below = record {
   numbered_hypotheses = rw (← at, typecodes, numbered_hypotheses) are.hypotheses_of;
   conclusion = same;

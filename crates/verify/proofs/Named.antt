@@ -1,5 +1,5 @@
 -- Steps over numbers are steps over the names that they stand for.
-use Rattle.verify.proofs.Words.{◌≡◌, ℕ, zero, suc, ◌+◌, ◌-◌, ◌≤◌, Bool, true, false, IsTrue, List, [], ◌∷◌, ◌++◌, length, drop, get_or, replicate, slice_get, slice_set, refl, map, take, Some, option_map, sym, ◌∙◌, ap, arith, true≢false, subst, length-append, length-drop, length-map, take-append-drop, map_push, slice_get-map, AreBelow, AllBelow, Results, IsSaved, with_result, with_mark, Adds, below, top, Marks, Recalls, below-group, Name, Expr, Database, name_at, decode, Recall, Mark, named, AreNamed, StepsByNumber}
+use Rattle.verify.proofs.Words.{◌≡◌, ℕ, zero, suc, ◌+◌, ◌-◌, ◌≤◌, Bool, true, false, IsTrue, List, [], ◌∷◌, ◌++◌, length, drop, get_or, replicate, slice_get, slice_set, refl, map, take, Some, option_map, sym, ◌∙◌, ap, arith, true≢false, subst, length-append, length-drop, length-map, take-append-drop, map_push, slice_get-map, AreBelow, AllBelow, Results, IsSaved, with_result, with_mark, Adds, below, top, Marks, Recalls, below-group, Name, Expr, Database, name_at, decode, Recall, Mark, named, AreNamed, RunsItemByNumber}
 use Rattle.verify.proofs.ResultPlaceLemmas.{results-same}
 
 -- ---- lists
@@ -75,7 +75,7 @@ module _ (names : List Name) where
   module _ (S : Database) (at : ℕ) where
     -- ---- a recall, a mark, a hypothesis
 
-    pub goes-recall : (ok : Bool) (old new : Results ℕ) (k : ℕ) → AreNamed names old → Recalls ok old new k → StepsByNumber ok S at names (Recall k) old new
+    pub goes-recall : (ok : Bool) (old new : Results ℕ) (k : ℕ) → AreNamed names old → Recalls ok old new k → RunsItemByNumber ok S at names (Recall k) old new
     goes-recall true old new k a r = (
       (decode names r.0, saved-on old.saved k r.0 r.1, ap (named names) r.2 ∙ named-result old old.stack r.0),
       subst (AreNamed names) (sym r.2) (result-named old old.stack r.0 a a.stack_named (saved-named old.saved k r.0 a.saved_named r.1)),
@@ -87,7 +87,7 @@ module _ (names : List Name) where
         let w = ap (λ s. s.weight) p.2 in
         omega (arith, heavy, len, w)
 
-    pub goes-mark : (ok : Bool) (old new : Results ℕ) → AreNamed names old → Marks ok old new → StepsByNumber ok S at names Mark old new
+    pub goes-mark : (ok : Bool) (old new : Results ℕ) → AreNamed names old → Marks ok old new → RunsItemByNumber ok S at names Mark old new
     goes-mark true old new a m = (
       (map (decode names) m.0, decode names m.1, ap (map (decode names)) m.2 ∙ map_push (decode names) m.0 m.1, ap (named names) m.3 ∙ named-mark old m.1),
       subst (AreNamed names) (sym m.3) (record { stack_named = a.stack_named; saved_named = all-snoc (length names) old.saved m.1 a.saved_named (last-named m.0 m.1 (subst (AllBelow (length names)) m.2 a.stack_named)) }),

@@ -1,5 +1,5 @@
 -- The exits of a step in the code are steps of the machine.
-use Rattle.verify.proofs.Words.{◌≡◌, ℕ, suc, ◌+◌, ◌-◌, ◌<◌, ◌≤◌, Bool, true, false, List, [], ◌∷◌, ◌++◌, length, map, take, drop, get_or, Some, refl, IsTrue, nat_lt, nat_eq, replicate, slice_get, slice_set, sym, ◌∙◌, ap, subst, arith, true≢false, length-append, nat_tests, length-map, map-append, take-append-drop, take_all, take_more, same_from_push, map_push, append-nil, nil_from_length, drop_all, drop_more, map_more, drop-append-le, drop-set-lt, length-set, length-replicate, get_or-set_same, get_or-set_other, get_or-replicate, get_or_from_slice_get, get_or_default, slice_get-get_or, item-cite, item-recall, Name, Stmt, Database, stmt_at, expr_of, name_at, decode, Item, Cite, Recall, Results, State, start, Cites, of_hypothesis, of_assertion, premises, Expr, Runs, with_result, Adds, Marks, Recalls, CachesLast, AreBelow, AllBelow, named, AreNamed, StepsByNumber, without_cached, HasCited, IsCached, AreCached, AreNamedAndCached, StepsWithTable, HasLegalProperties, item_of, IsRight, weight_limit, decode-injective, below-group, LabelEntry, Nothing, IsEntry, AreEntries, get-front, length-drop, get_or-append_right, get_or-drop}
+use Rattle.verify.proofs.Words.{◌≡◌, ℕ, suc, ◌+◌, ◌-◌, ◌<◌, ◌≤◌, Bool, true, false, List, [], ◌∷◌, ◌++◌, length, map, take, drop, get_or, Some, refl, IsTrue, nat_lt, nat_eq, replicate, slice_get, slice_set, sym, ◌∙◌, ap, subst, arith, true≢false, length-append, nat_tests, length-map, map-append, take-append-drop, take_all, take_more, same_from_push, map_push, append-nil, nil_from_length, drop_all, drop_more, map_more, drop-append-le, drop-set-lt, length-set, length-replicate, get_or-set_same, get_or-set_other, get_or-replicate, get_or_from_slice_get, get_or_default, slice_get-get_or, item-cite, item-recall, Name, Stmt, Database, stmt_at, expr_of, name_at, decode, Item, Cite, Recall, Results, State, start, Cites, of_hypothesis, of_assertion, premises, Expr, Runs, with_result, Adds, Marks, Recalls, CachesLast, AreBelow, AllBelow, named, AreNamed, RunsItemByNumber, without_cached, HasCited, IsCached, AreCached, AreNamedAndCached, RunsItemWithTable, HasLegalProperties, item_of, IsRight, weight_limit, decode-injective, below-group, LabelEntry, Nothing, IsEntry, AreEntries, get-front, length-drop, get_or-append_right, get_or-drop}
 use Rattle.verify.proofs.Named.{goes-recall, goes-mark, named-result, result-named, all-drop, all-set, all-snoc, all-none, all-at, get-drop}
 use Rattle.verify.proofs.Decide.{cites_same, refuted_at_end, refuted_at_step, accepts_right}
 use Rattle.verify.proofs.Complete.{runs_append}
@@ -15,7 +15,7 @@ cites-alone S at label stack below e (of_assertion a s σ carries is all same) l
 
 module _ (S : Database) (names : List Name) (at : ℕ) (legal : HasLegalProperties S names) where
   module _ (old new : Results ℕ) (an : AreNamed names old) where
-    pub given-result : (label : Name) (ok : Bool) (e : List ℕ) → Cites S at label (map (decode names) old.stack) (map (decode names) old.stack) (decode names e) → AreBelow (length names) e → Adds ok old new old.stack e → StepsByNumber ok S at names (Cite label) old new
+    pub given-result : (label : Name) (ok : Bool) (e : List ℕ) → Cites S at label (map (decode names) old.stack) (map (decode names) old.stack) (decode names e) → AreBelow (length names) e → Adds ok old new old.stack e → RunsItemByNumber ok S at names (Cite label) old new
     given-result label true e cites codes adds = (
       (map (decode names) old.stack, decode names e, cites, ap (named names) adds ∙ named-result names old old.stack e),
       subst (AreNamed names) (sym adds) (result-named names old old.stack e an an.stack_named codes),
@@ -28,12 +28,12 @@ module _ (S : Database) (names : List Name) (at : ℕ) (legal : HasLegalProperti
 
   -- ---- the number of an item
 
-  cite-number : (old new : Results ℕ) (ok : Bool) (labels : List Name) (n k : ℕ) → n ≡ suc k → k < length labels → StepsByNumber ok S at names (Cite (get_or labels k [])) old new → StepsByNumber ok S at names (item_of labels n) old new
-  cite-number old new ok labels n k e h p = subst (λ i. StepsByNumber ok S at names i old new) (sym (item-cite labels n k e h)) p
+  cite-number : (old new : Results ℕ) (ok : Bool) (labels : List Name) (n k : ℕ) → n ≡ suc k → k < length labels → RunsItemByNumber ok S at names (Cite (get_or labels k [])) old new → RunsItemByNumber ok S at names (item_of labels n) old new
+  cite-number old new ok labels n k e h p = subst (λ i. RunsItemByNumber ok S at names i old new) (sym (item-cite labels n k e h)) p
 
   recall-number : (old new : Results ℕ) (an : AreNamed names old) (ok : Bool) (labels : List Name) (n k m : ℕ) → n ≡ suc k → length labels ≤ k → m ≡ suc (k - length labels)
-      → Recalls ok old new m → StepsByNumber ok S at names (item_of labels n) old new
-  recall-number old new an ok labels n k m e h at_m p = subst (λ i. StepsByNumber ok S at names i old new) (ap Recall at_m ∙ sym (item-recall labels n k e h)) (goes-recall names S at ok old new m an p)
+      → Recalls ok old new m → RunsItemByNumber ok S at names (item_of labels n) old new
+  recall-number old new an ok labels n k m e h at_m p = subst (λ i. RunsItemByNumber ok S at names i old new) (ap Recall at_m ∙ sym (item-recall labels n k e h)) (goes-recall names S at ok old new m an p)
 
   -- ---- the whole proof
 
@@ -44,11 +44,11 @@ module _ (S : Database) (names : List Name) (at : ℕ) (legal : HasLegalProperti
   pub reached-start : (st : Results ℕ) → st ≡ (let r : Results ℕ = record { stack = []; saved = []; weight = 0 } in r) → Reached [] st
   reached-start st e = subst (Reached []) (sym e) (record { runs = refl; are_named = record { stack_named = tt; saved_named = tt } })
 
-  pub reached-step : (items : List Item) (item : Item) (old new : Results ℕ) → Reached items old → StepsByNumber true S at names item old new → Reached (items ++ item ∷ []) new
+  pub reached-step : (items : List Item) (item : Item) (old new : Results ℕ) → Reached items old → RunsItemByNumber true S at names item old new → Reached (items ++ item ∷ []) new
   reached-step items item old new r g =
       record { runs = runs_append S at (legal.single at) items (item ∷ []) start (named names old) (named names new) r.runs (named names new, g.0, refl); are_named = g.1 }
 
-  pub wrong-step : (items rest : List Item) (item : Item) (old new : Results ℕ) (s : Stmt) → stmt_at S at ≡ Some s → Reached items old → StepsByNumber false S at names item old new → IsRight S at (items ++ item ∷ rest) → ⊥
+  pub wrong-step : (items rest : List Item) (item : Item) (old new : Results ℕ) (s : Stmt) → stmt_at S at ≡ Some s → Reached items old → RunsItemByNumber false S at names item old new → IsRight S at (items ++ item ∷ rest) → ⊥
   wrong-step items rest item old new s stands r g right = refuted_at_step S at (legal.single at) legal.once items rest item (named names old) s stands r.runs g right
 
   pub right-end : (items : List Item) (st : Results ℕ) (s : Stmt) (e : List ℕ) → stmt_at S at ≡ Some s → Reached items st → decode names e ≡ expr_of s → st.stack ≡ e ∷ [] → st.weight ≤ weight_limit → IsRight S at items
@@ -85,7 +85,7 @@ module _ (S : Database) (names : List Name) (at : ℕ) where
   pub without_cached-named : (n : ℕ) (st : Results ℕ) → AreNamed names st → AreNamed names (without_cached n st)
   without_cached-named n st a = record { stack_named = a.stack_named; saved_named = all-drop (length names) n st.saved a.saved_named }
 
-  cite-behind : (n : ℕ) (ok : Bool) (label : Name) (old new : Results ℕ) → StepsByNumber ok S at names (Cite label) old new → StepsByNumber ok S at names (Cite label) (without_cached n old) (without_cached n new)
+  cite-behind : (n : ℕ) (ok : Bool) (label : Name) (old new : Results ℕ) → RunsItemByNumber ok S at names (Cite label) old new → RunsItemByNumber ok S at names (Cite label) (without_cached n old) (without_cached n new)
   cite-behind n true label old new g = (
     (
       g.0.0,
@@ -114,11 +114,11 @@ module _ (S : Database) (names : List Name) (at : ℕ) where
     -- ---- the citation of a label of the table
 
     module _ (labels : List Name) (number k : ℕ) (d : LabelEntry) (by_number : number ≡ suc k) (are : AreEntries S at labels table) (within : k < length table) where
-      pub cited-on : (ok : Bool) → HasCited S at names (get_or table k d) old new ok → StepsWithTable ok S at names table (item_of labels number) old new
+      pub cited-on : (ok : Bool) → HasCited S at names (get_or table k d) old new ok → RunsItemWithTable ok S at names table (item_of labels number) old new
       cited-on ok cited =
           let goes = cited.0 (get_or labels k []) (entry_at S at labels table k d are within) in (
             cite-number S names at legal (without_cached (length table) old) (without_cached (length table) new) ok labels number k by_number (let c = are.count in omega (arith, within, c)) (cite-behind (length table) ok (get_or labels k []) old new goes),
-            λ t. known-if (λ b. StepsByNumber b S at names (Cite (get_or labels k [])) old new) (λ g. record { are_named = g.1; cached = subst (AreCached S at names table) (sym (cited.1 t)) known.cached }) ok goes t,
+            λ t. known-if (λ b. RunsItemByNumber b S at names (Cite (get_or labels k [])) old new) (λ g. record { are_named = g.1; cached = subst (AreCached S at names table) (sym (cited.1 t)) known.cached }) ok goes t,
           )
 
       -- if the citation took no results, its result is cached for the label
@@ -156,23 +156,23 @@ module _ (S : Database) (names : List Name) (at : ℕ) where
                 let other : k ≡ j → ⊥ = λ q. (let x : nat_eq k j ≡ true = grind (arith, nat_tests) in true≢false (sym x ∙ t)) in
                 subst (IsCached S at names (get_or table j Nothing)) (sym (get_or-set_other new.saved k j e [] (λ q. other (sym q)))) (a.cached.each j less)
 
-        pub kept-on : StepsWithTable true S at names table (item_of labels number) old last
+        pub kept-on : RunsItemWithTable true S at names table (item_of labels number) old last
         kept-on =
             let on = cited-on true cited in
             let same : without_cached (length table) new ≡ without_cached (length table) last =
             sym (ap (without_cached (length table)) kept ∙ results-same new.stack new.stack (drop (length table) (slice_set new.saved k e)) (drop (length table) new.saved) new.weight new.weight refl (drop-set-lt (length table) new.saved k e within) refl) in
-            (subst (StepsByNumber true S at names (item_of labels number) (without_cached (length table) old)) same on.0, λ t. kept-known (on.1 refl))
+            (subst (RunsItemByNumber true S at names (item_of labels number) (without_cached (length table) old)) same on.0, λ t. kept-known (on.1 refl))
 
     -- ---- the citation of a label before those of the table
 
     module _ (labels : List Name) (number k : ℕ) (front : List LabelEntry) (d : LabelEntry) (by_number : number ≡ suc k) (are : AreEntries S at labels (front ++ table)) (within : k < length front) where
-      pub viewed_entries-on : (ok : Bool) → HasCited S at names (get_or front k d) old new ok → StepsWithTable ok S at names table (item_of labels number) old new
+      pub viewed_entries-on : (ok : Bool) → HasCited S at names (get_or front k d) old new ok → RunsItemWithTable ok S at names table (item_of labels number) old new
       viewed_entries-on ok cited =
           let all = length-append front table in
           let entry = subst (IsEntry S at (get_or labels k [])) (get-front front table k d within) (entry_at S at labels (front ++ table) k d are (omega arith)) in
           let goes = cited.0 (get_or labels k []) entry in (
             cite-number S names at legal (without_cached (length table) old) (without_cached (length table) new) ok labels number k by_number (let c = are.count in omega arith) (cite-behind (length table) ok (get_or labels k []) old new goes),
-            λ t. known-if (λ b. StepsByNumber b S at names (Cite (get_or labels k [])) old new) (λ g. record { are_named = g.1; cached = subst (AreCached S at names table) (sym (cited.1 t)) known.cached }) ok goes t,
+            λ t. known-if (λ b. RunsItemByNumber b S at names (Cite (get_or labels k [])) old new) (λ g. record { are_named = g.1; cached = subst (AreCached S at names table) (sym (cited.1 t)) known.cached }) ok goes t,
           )
 
     -- ---- the recall of a saved result
@@ -184,7 +184,7 @@ module _ (S : Database) (names : List Name) (at : ℕ) where
     })
 
     -- a recall of a marked result
-    recall-on : (labels : List Name) (k number : ℕ) (ok : Bool) → number ≡ suc k → length table ≡ length labels → length table ≤ k → Recalls ok old new (suc k) → StepsWithTable ok S at names table (item_of labels number) old new
+    recall-on : (labels : List Name) (k number : ℕ) (ok : Bool) → number ≡ suc k → length table ≡ length labels → length table ≤ k → Recalls ok old new (suc k) → RunsItemWithTable ok S at names table (item_of labels number) old new
     recall-on labels k number ok is count high recalls = (
       recall-number S names at legal (without_cached (length table) old) (without_cached (length table) new) below_named ok labels number k (suc (k - length table)) is (omega (arith, count, high)) (ap (λ n. suc (k - n)) count) (cut-recalls ok recalls),
       known-if (λ b. Recalls b old new (suc k)) (recall-known k) ok recalls,
@@ -196,7 +196,7 @@ module _ (S : Database) (names : List Name) (at : ℕ) where
 
     -- a recall of the result that is cached for a label cites this label
     known-on : (labels : List Name) (k number : ℕ) (ok : Bool) → number ≡ suc k → AreEntries S at labels table → k < length table → 0 < length (get_or old.saved k []) → Recalls ok old new (suc k)
-        → StepsWithTable ok S at names table (item_of labels number) old new
+        → RunsItemWithTable ok S at names table (item_of labels number) old new
     known-on labels k number ok is are within some recalls = (
       cite-number S names at legal (without_cached (length table) old) (without_cached (length table) new) ok labels number k is (let c = are.count in omega (arith, within, c))
           (given-result S names at legal (without_cached (length table) old) (without_cached (length table) new) below_named (get_or labels k []) ok (get_or old.saved k [])
@@ -212,18 +212,18 @@ module _ (S : Database) (names : List Name) (at : ℕ) where
         adds true h = ap (without_cached (length table)) (h.2 ∙ ap (with_result old old.stack) (sym (get_or_from_slice_get old.saved k h.0 [] h.1)))
         adds false h = h (get_or old.saved k []) there
 
-    pub has-on : (labels : List Name) (k number : ℕ) (ok : Bool) → number ≡ suc k → AreEntries S at labels table → (k < length table → 0 < length (get_or old.saved k [])) × Recalls ok old new (suc k) → StepsWithTable ok S at names table (item_of labels number) old new
+    pub has-on : (labels : List Name) (k number : ℕ) (ok : Bool) → number ≡ suc k → AreEntries S at labels table → (k < length table → 0 < length (get_or old.saved k [])) × Recalls ok old new (suc k) → RunsItemWithTable ok S at names table (item_of labels number) old new
     has-on labels k number ok is are recalls = by (nat_lt k (length table)) refl
       where
-        by : (b : Bool) → nat_lt k (length table) ≡ b → StepsWithTable ok S at names table (item_of labels number) old new
+        by : (b : Bool) → nat_lt k (length table) ≡ b → RunsItemWithTable ok S at names table (item_of labels number) old new
         by true e = let within : k < length table = grind (arith, nat_tests) in known-on labels k number ok is are within (recalls.0 within) recalls.1
         by false e = recall-on labels k number ok is are.count (grind (arith, nat_tests)) recalls.1
 
     -- ---- a mark
 
-    pub mark-on : (labels : List Name) (number : ℕ) (ok : Bool) → number ≡ 0 → Marks ok old new → StepsWithTable ok S at names table (item_of labels number) old new
+    pub mark-on : (labels : List Name) (number : ℕ) (ok : Bool) → number ≡ 0 → Marks ok old new → RunsItemWithTable ok S at names table (item_of labels number) old new
     mark-on labels number ok is marks = (
-      subst (λ m. StepsByNumber ok S at names (item_of labels m) (without_cached (length table) old) (without_cached (length table) new)) (sym is) (goes-mark names S at ok (without_cached (length table) old) (without_cached (length table) new) below_named (cut-marks ok marks)),
+      subst (λ m. RunsItemByNumber ok S at names (item_of labels m) (without_cached (length table) old) (without_cached (length table) new)) (sym is) (goes-mark names S at ok (without_cached (length table) old) (without_cached (length table) new) below_named (cut-marks ok marks)),
       known-if (λ b. Marks b old new) marked ok marks,
     )
       where

@@ -1,5 +1,5 @@
 -- A run that stops, and whether its items are right.
-use Rattle.verify.proofs.Words.{◌≡◌, ℕ, ◌+◌, ◌<◌, ◌≤◌, false, List, [], ◌∷◌, ◌++◌, length, map, take, drop, get_or, Some, slice_get, sym, ◌∙◌, ap, subst, arith, length-map, take-append-drop, take-map, take_all, drop_more, slice_get-map, slice_get-get_or, slice_get_within, some-same, option_map, Name, Stmt, Database, stmt_at, expr_of, decode, Item, Mark, Results, start, Runs, RunsItem, AreBelow, named, StepsByNumber, HasLegalProperties, item_of, items_of, IsRight, weight_limit, StopsAt, LabelEntry, AreEntries, without_cached}
+use Rattle.verify.proofs.Words.{◌≡◌, ℕ, ◌+◌, ◌<◌, ◌≤◌, false, List, [], ◌∷◌, ◌++◌, length, map, take, drop, get_or, Some, slice_get, sym, ◌∙◌, ap, subst, arith, length-map, take-append-drop, take-map, take_all, drop_more, slice_get-map, slice_get-get_or, slice_get_within, some-same, option_map, Name, Stmt, Database, stmt_at, expr_of, decode, Item, Mark, Results, start, Runs, RunsItem, AreBelow, named, RunsItemByNumber, HasLegalProperties, item_of, items_of, IsRight, weight_limit, StopsAt, LabelEntry, AreEntries, without_cached}
 use Rattle.verify.proofs.Decide.{refuted_at_step, accepts_right}
 use Rattle.verify.proofs.StepLemmas.{Reached, right-end, wrong-end}
 
@@ -11,7 +11,7 @@ item-at labels numbers k item less is =
 module _ (S : Database) (names : List Name) (at : ℕ) (legal : HasLegalProperties S names) where
   -- the run stops at an item that was not done
   pub stops-at : (labels : List Name) (numbers : List ℕ) (k : ℕ) (old st new : Results ℕ) → k < length numbers → Reached S names at legal (map (item_of labels) (take k numbers)) old
-      → StepsByNumber false S at names (item_of labels (get_or numbers k 0)) old new → st ≡ old → StopsAt S at names (items_of labels numbers) k st
+      → RunsItemByNumber false S at names (item_of labels (get_or numbers k 0)) old new → st ≡ old → StopsAt S at names (items_of labels numbers) k st
   stops-at labels numbers k old st new less r goes same = subst (StopsAt S at names (items_of labels numbers) k) (sym same) (record {
     within = let l = length-map numbers (item_of labels) in omega (arith, less, l);
     runs = subst (λ is. Runs S at start is (named names old)) (sym (take-map (item_of labels) k numbers)) r.runs;

@@ -78,7 +78,7 @@ pub use Rattle.verify.specs.Derivations.{Derivation, Derivations, apply, depth, 
 pub use Rattle.verify.specs.Extents.{extent_of}
 pub use Rattle.verify.specs.HypothesisResults.{AreDifferent, AreFloats, AreLeadingFloats, AreRead, ArePresent, HypothesesMatch, HypothesisMatches, IsPresent, IsTyped, Reads}
 pub use Rattle.verify.specs.Growth.{Builds, Grew, Grows, GrowsBy, IsSavedTree, Trees, a_hypothesis, an_assertion, trees, with_tree}
-pub use Rattle.verify.specs.CitationCache.{IsCacheFor, AreKeptLists, AreListsOf, AreMadeOf, HasListsAt, IsCitedBy, CheckerCache, CitationLists, AreSameCondition, are_covered, is_paired}
+pub use Rattle.verify.specs.CitationCache.{IsCacheFor, AreKeptLists, AreListsOf, AreMadeOf, HasListsAt, IsCitingViewOf, CheckerCache, CitationLists, AreSameCondition, are_covered, is_paired}
 pub use Rattle.verify.specs.LabelTable.{AreEntries, IsEntry, is_hypothesis_among, viewed_entries}
 pub use Rattle.verify.specs.Laws.{RunsSpell, SpelledOnce, SpellingsRun}
 pub use Rattle.verify.specs.Machine.{Cites, IsSaved, Results, Runs, State, RunsItem, of_assertion, of_hypothesis, start, with_mark, with_result}
@@ -88,7 +88,7 @@ pub use Rattle.verify.specs.ReadPlaces.{BeginsWith, IsMistyped, ReadTo, ReadsAll
 pub use Rattle.verify.specs.ResultPlaces.{Adds, AreHeld, AreResultRanges, HeldResults, CachesLast, Marks, Recalls, UnchangedUnlessDone, below, held, results_in, top}
 pub use Rattle.verify.specs.Right.{Derives, IsProvable, IsRight, IsSmall, IsAnswerTo, weight_limit}
 pub use Rattle.verify.specs.Spells.{IsCitable, Spells, SpellsAll, cites_assertion, cites_hypothesis, marks, recalls, spells_more, spells_none}
-pub use Rattle.verify.specs.StepsByNumber.{AreCached, AreNamedAndCached, AreNamed, HasCited, IsCached, MayCite, StepsByNumber, StepsWithTable, without_cached, named}
+pub use Rattle.verify.specs.RunsItemByNumber.{AreCached, AreNamedAndCached, AreNamed, HasCited, IsCached, MayCite, RunsItemByNumber, RunsItemWithTable, without_cached, named}
 pub use Rattle.verify.specs.Stops.{IsNotOnly, StopsAt}
 pub use Rattle.verify.specs.declared.answer.Answer.TheVariants.{Proved, Wrong}
 pub use Rattle.verify.specs.declared.answer.Answer.{Answer}

@@ -21,7 +21,7 @@ AreSameCondition gs hs = (names : List Name) (D : Database) (σ : Images) → ar
 -- ---- the view of an assertion that a citation reads
 
 -- the assertion s at a may be cited by the view c
-pub record IsCitedBy (S : Database) (names : List Name) (a : ℕ) (s : Stmt) (c : AssertionView) : Type 0 where
+pub record IsCitingViewOf (S : Database) (names : List Name) (a : ℕ) (s : Stmt) (c : AssertionView) : Type 0 where
   pub numbered_hypotheses : AreNumberedHypotheses S names (hypotheses (before S a) s) c.typecodes.now c.hypotheses
   pub conclusion : decode names c.conclusion.now ≡ expr_of s
   pub conclusion_below : AreBelow (length names) c.conclusion.now

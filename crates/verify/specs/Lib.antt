@@ -9,7 +9,7 @@ pub mod HypothesisResults
 pub mod LongHypotheses
 pub mod ReadPlaces
 pub mod CitationCache
-pub mod StepsByNumber
+pub mod RunsItemByNumber
 pub mod Stops
 pub mod LabelTable
 pub mod Growth

@@ -3,7 +3,7 @@
 -- The code runs over the items once, up to the first that cannot be done.
 use Rattle.std.specs.Prelude.{◌≡◌, ℕ, ◌<◌, ◌≤◌, List, [], ◌∷◌, length, map, take, slice_get, Some}
 use Rattle.verify.specs.Words.{Name, Stmt, Database, stmt_at, expr_of, Item, decode}
-use Rattle.verify.specs.StepsByNumber.{named, AreNamed, without_cached}
+use Rattle.verify.specs.RunsItemByNumber.{named, AreNamed, without_cached}
 use Rattle.verify.specs.Machine.{Results, State, start, Runs, RunsItem}
 use Rattle.verify.specs.Right.{weight_limit}
 use Rattle.verify.specs.declared.failure.Failure.{Failure}

@@ -147,7 +147,7 @@ impl Checker {
         let parts = items.parts();
         self.record_size(parts.numbers.len());
         fill_table(frames, at, parts.labels, &mut self.table)?;
-        check_listed(frames, at, &self.table, parts.numbers, &mut self.buffers)
+        check_by_table(frames, at, &self.table, parts.numbers, &mut self.buffers)
     }
 
     /// Returns whether the tokens write a right proof of the `$p` at that position.
@@ -188,7 +188,7 @@ impl Checker {
             return Ok(Answer::Wrong);
         }
         let numbers = self.reader.numbers();
-        check_listed(frames, at, &self.table, numbers, &mut self.buffers)
+        check_by_table(frames, at, &self.table, numbers, &mut self.buffers)
     }
 
     /// Returns whether the tokens write a right proof, in normal form, of the `$p` at that position.
@@ -269,7 +269,7 @@ pub fn check(alloc: Global, frames: &Frames, at: usize, items: &Items) -> Result
 ///
 /// Errors: an allocation fails.
 #[inline(never)]
-fn check_listed(
+fn check_by_table(
     frames: &Frames,
     at: usize,
     table: &[LabelEntry],

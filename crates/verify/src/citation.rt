@@ -7,8 +7,8 @@ ghost use Rattle.mm_lex.specs.Alphabet.{Name};
 ghost use Rattle.mm_read.specs.declared.stmt.Stmt.{Stmt as Statement};
 ghost use Rattle.proof_code.specs.ItemNumbers.{item_of};
 ghost use Rattle.scope.specs.Active.{stmt_at};
-ghost use Rattle.verify.specs.StepsByNumber.{AreNamedAndCached, AreNamed, StepsWithTable, HasCited, IsReady, MayCite};
-ghost use Rattle.verify.specs.CitationCache.{IsCacheFor, HasListsAt, IsCitedBy};
+ghost use Rattle.verify.specs.RunsItemByNumber.{AreNamedAndCached, AreNamed, RunsItemWithTable, HasCited, IsReady, MayCite};
+ghost use Rattle.verify.specs.CitationCache.{IsCacheFor, HasListsAt, IsCitingViewOf};
 ghost use Rattle.verify.specs.LabelTable.{AreEntries, IsEntry, viewed_entries};
 ghost use Rattle.verify.specs.ResultPlaces.{UnchangedUnlessDone};
 ghost use Rattle.verify.specs.declared.label_table.LabelEntry.TheVariants.{Hypothesis};
@@ -58,7 +58,7 @@ fn cite_by_view(
     results: &mut Results,
 ) -> Result<bool, AllocError>
     requires may { MayCite context.now position results.old.about results.old.results }
-    requires cited { (s : Statement) → stmt_at context.now.frames.now.statements position ≡ Some s → IsCitedBy context.now.frames.now.statements context.now.frames.now.names position s cited.now }
+    requires cited { (s : Statement) → stmt_at context.now.frames.now.statements position ≡ Some s → IsCitingViewOf context.now.frames.now.statements context.now.frames.now.names position s cited.now }
     ensures effect { IfOk result (HasCited context.now.frames.now.statements context.now.at context.now.frames.now.names (LabelEntry.Assertion position) results.old.results results.new.results) }
     ensures unchanged { IfOk result (λ ok. UnchangedUnlessDone ok results.old.results results.new.results) }
     ensures about { results.new.about ≡ context.now.pairs }
@@ -258,7 +258,7 @@ pub fn step(
     requires kept { IsCacheFor context.now.frames.now.statements context.now.frames.now.names buffers.old.kept }
     ensures about { buffers.new.results.about ≡ context.now.pairs }
     ensures effect { (labels : List Name) → AreEntries context.now.frames.now.statements context.now.at labels table.now
-        → IfOk result (λ ok. StepsWithTable ok context.now.frames.now.statements context.now.at context.now.frames.now.names table.now (item_of labels number) buffers.old.results.results buffers.new.results.results) }
+        → IfOk result (λ ok. RunsItemWithTable ok context.now.frames.now.statements context.now.at context.now.frames.now.names table.now (item_of labels number) buffers.old.results.results buffers.new.results.results) }
     ensures unchanged { IfOk result (λ ok. UnchangedUnlessDone ok buffers.old.results.results buffers.new.results.results) }
     ensures kept { IsCacheFor context.now.frames.now.statements context.now.frames.now.names buffers.new.kept }
 {
@@ -295,7 +295,7 @@ pub fn run_item(
     requires kept { IsCacheFor context.now.frames.now.statements context.now.frames.now.names buffers.old.kept }
     ensures about { buffers.new.results.about ≡ context.now.pairs }
     ensures effect { (labels : List Name) → AreEntries context.now.frames.now.statements context.now.at labels (viewed_entries (option_map (λ v. v.now) view.entry) ++ table.now)
-        → IfOk result (λ ok. StepsWithTable ok context.now.frames.now.statements context.now.at context.now.frames.now.names table.now (item_of labels number) buffers.old.results.results buffers.new.results.results) }
+        → IfOk result (λ ok. RunsItemWithTable ok context.now.frames.now.statements context.now.at context.now.frames.now.names table.now (item_of labels number) buffers.old.results.results buffers.new.results.results) }
     ensures unchanged { IfOk result (λ ok. UnchangedUnlessDone ok buffers.old.results.results buffers.new.results.results) }
     ensures kept { IsCacheFor context.now.frames.now.statements context.now.frames.now.names buffers.new.kept }
 {
@@ -323,7 +323,7 @@ fn step_by_view(
     requires kept { IsCacheFor context.now.frames.now.statements context.now.frames.now.names buffers.old.kept }
     ensures about { buffers.new.results.about ≡ context.now.pairs }
     ensures effect { (labels : List Name) → AreEntries context.now.frames.now.statements context.now.at labels (map Hypothesis view.now ++ table.now)
-        → IfOk result (λ ok. StepsWithTable ok context.now.frames.now.statements context.now.at context.now.frames.now.names table.now (item_of labels number) buffers.old.results.results buffers.new.results.results) }
+        → IfOk result (λ ok. RunsItemWithTable ok context.now.frames.now.statements context.now.at context.now.frames.now.names table.now (item_of labels number) buffers.old.results.results buffers.new.results.results) }
     ensures unchanged { IfOk result (λ ok. UnchangedUnlessDone ok buffers.old.results.results buffers.new.results.results) }
     ensures kept { IsCacheFor context.now.frames.now.statements context.now.frames.now.names buffers.new.kept }
 {

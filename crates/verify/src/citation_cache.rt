@@ -150,8 +150,8 @@ fn copy_groups(
     for index in 0..from.len() {
         let group = from.get(index);
         // Whether pairs of the group can be recorded, not whether they are.
-        let recorded = pairs.look_up(group)?;
-        if recorded && is_covered(&Groups::new(groups, grouped_variables), group, pairs) {
+        let recordable = pairs.look_up(group)?;
+        if recordable && is_covered(&Groups::new(groups, grouped_variables), group, pairs) {
             continue;
         }
         pairs.record_list(groups.len());

@@ -5,7 +5,7 @@ ghost use Rattle.mm_lex.specs.Alphabet.{Name};
 ghost use Rattle.mm_read.specs.declared.stmt.Stmt.{Stmt as Statement};
 ghost use Rattle.proof_code.specs.ItemNumbers.{items_of};
 ghost use Rattle.verify.specs.CitationCache.{IsCacheFor};
-ghost use Rattle.verify.specs.StepsByNumber.{IsReady, without_cached};
+ghost use Rattle.verify.specs.RunsItemByNumber.{IsReady, without_cached};
 ghost use Rattle.verify.specs.LabelTable.{AreEntries, viewed_entries};
 ghost use Rattle.verify.specs.Right.{IsProvable, IsRight};
 ghost use Rattle.verify.specs.Stops.{IsFirstFailure, StopsAt};

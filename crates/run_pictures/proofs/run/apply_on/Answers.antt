@@ -2,7 +2,7 @@ use Rattle.run_pictures.proofs.Words.{refl, next_entry}
 use Rattle.run_pictures.proofs.RunLemmas.{taken_stays}
 use Rattle.run_pictures.proofs.run.apply_on.Goals as goal
 
-pub returns-clause-taken : goal.returns-clause-taken
-returns-clause-taken c =
+pub returns-clause-same_history : goal.returns-clause-same_history
+returns-clause-same_history c =
     taken_stays c.args.world.now c.apply_next.new.self c.args.k (next_entry c.args.world.now c.args.k) c.apply_next.result refl
     c.apply_next.ensures.applied c.apply_next.ensures.same_if_none c.apply_next.ensures.same

@@ -6,7 +6,7 @@ pub loop-index-preserved-then-is_covered : goal.loop-index-preserved-then-is_cov
 loop-index-preserved-then-is_covered c =
     let l = c.loop-index in
     let less : l.index < length c.args.from.now = let test = c.loop-index-test.true in omega (arith, test, c.len-index-end.ensures) in
-    let read = c.new.ensures ∙ (ap (λ ps. cut ps c.deref.result.now) c.deref-then-recorded.ensures.value ∙ ap (cut l.grouped_variables.items) c.deref.ensures.value) in
+    let read = c.new.ensures ∙ (ap (λ ps. cut ps c.deref.result.now) c.deref-then-recordable.ensures.value ∙ ap (cut l.grouped_variables.items) c.deref.ensures.value) in
     let covered : are_covered (cut l.grouped_variables.items l.groups.items) c.get-group.result.now ≡ true = subst (λ gs. are_covered gs c.get-group.result.now ≡ true) read (c.is_covered.ensures c.if-is_covered.true) in
     record {
       within = l.invariant.within;

@@ -1,4 +1,4 @@
-use Rattle.verify.proofs.Words.{◌≡◌, Bool, true, false, Result, Ok, IfOk, get_or, length, map, take, arith, sym, subst, refl, IfOk-at_ok, item_of, without_cached, StepsWithTable, UnchangedUnlessDone, ap}
+use Rattle.verify.proofs.Words.{◌≡◌, Bool, true, false, Result, Ok, IfOk, get_or, length, map, take, arith, sym, subst, refl, IfOk-at_ok, item_of, without_cached, RunsItemWithTable, UnchangedUnlessDone, ap}
 use Rattle.verify.proofs.StepLemmas.{start-known, start-behind, Reached, reached-start, reached-step, items-more}
 use Rattle.verify.proofs.StopLemmas.{stops-at, stops-end}
 use Rattle.verify.proofs.failure.run_items.Goals as goal
@@ -20,7 +20,7 @@ pub loop-done-preserved : goal.loop-done-preserved
 loop-done-preserved c = (
   c.loop-done.invariant.0,
   (went c.run_item.result c.in_ok-run_item.field-0 true
-      (λ v. StepsWithTable v c.args.context.now.frames.now.statements c.args.context.now.at c.args.context.now.frames.now.names c.args.table.now (item_of c.requires.entries.0 (get_or c.args.numbers.now c.loop-done.done 0)) c.loop-done.buffers.results.results c.run_item.new.buffers.results.results)
+      (λ v. RunsItemWithTable v c.args.context.now.frames.now.statements c.args.context.now.at c.args.context.now.frames.now.names c.args.table.now (item_of c.requires.entries.0 (get_or c.args.numbers.now c.loop-done.done 0)) c.loop-done.buffers.results.results c.run_item.new.buffers.results.results)
       (c.run_item.ensures.effect c.requires.entries.0 c.requires.entries.1) c.in_ok-run_item.was c.if-not-branch.false).1 refl,
   λ labels are.
       subst (λ is. Reached c.args.context.now.frames.now.statements c.args.context.now.frames.now.names c.args.context.now.at c.loop-done.invariant.0 is (without_cached (length c.args.table.now) c.run_item.new.buffers.results.results)) (sym (items-more labels c.args.numbers.now c.loop-done.done c.loop-done-test.true))
@@ -28,7 +28,7 @@ loop-done-preserved c = (
       (map (item_of labels) (take c.loop-done.done c.args.numbers.now)) (item_of labels (get_or c.args.numbers.now c.loop-done.done 0))
       (without_cached (length c.args.table.now) c.loop-done.buffers.results.results) (without_cached (length c.args.table.now) c.run_item.new.buffers.results.results) (c.loop-done.invariant.2 labels are)
       (went c.run_item.result c.in_ok-run_item.field-0 true
-      (λ v. StepsWithTable v c.args.context.now.frames.now.statements c.args.context.now.at c.args.context.now.frames.now.names c.args.table.now (item_of labels (get_or c.args.numbers.now c.loop-done.done 0)) c.loop-done.buffers.results.results c.run_item.new.buffers.results.results)
+      (λ v. RunsItemWithTable v c.args.context.now.frames.now.statements c.args.context.now.at c.args.context.now.frames.now.names c.args.table.now (item_of labels (get_or c.args.numbers.now c.loop-done.done 0)) c.loop-done.buffers.results.results c.run_item.new.buffers.results.results)
       (c.run_item.ensures.effect labels are) c.in_ok-run_item.was c.if-not-branch.false).0),
   c.run_item.ensures.about,
   c.run_item.ensures.kept,
@@ -40,7 +40,7 @@ returns-then-not-branch-clause-stops c = λ labels are.
     stops-at S names at c.loop-done.invariant.0 labels c.args.numbers.now c.loop-done.done
     (without_cached (length table) c.loop-done.buffers.results.results) (without_cached (length table) c.run_item.new.buffers.results.results) (without_cached (length table) c.run_item.new.buffers.results.results)
     c.loop-done-test.true (c.loop-done.invariant.2 labels are)
-    (went c.run_item.result c.in_ok-run_item.field-0 false (λ v. StepsWithTable v S at names table (item_of labels (get_or c.args.numbers.now c.loop-done.done 0)) c.loop-done.buffers.results.results c.run_item.new.buffers.results.results)
+    (went c.run_item.result c.in_ok-run_item.field-0 false (λ v. RunsItemWithTable v S at names table (item_of labels (get_or c.args.numbers.now c.loop-done.done 0)) c.loop-done.buffers.results.results c.run_item.new.buffers.results.results)
     (c.run_item.ensures.effect labels are) c.in_ok-run_item.was c.if-not-branch.true).0
     (ap (without_cached (length table)) (went c.run_item.result c.in_ok-run_item.field-0 false (λ v. UnchangedUnlessDone v c.loop-done.buffers.results.results c.run_item.new.buffers.results.results) c.run_item.ensures.unchanged c.in_ok-run_item.was c.if-not-branch.true))
 

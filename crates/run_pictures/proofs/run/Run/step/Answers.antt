@@ -7,6 +7,6 @@ invariant_of-self-2 c =
     event_recorded c.self.inside.world c.step.new.self c.self.inside.steps.items c.push_reserved.new.self.items c.self.inside.posted c.in_ok-posted.posted (value_event c.args.event) c.ended.result
     c.self.invariant c.in_ok-posted.ensures.taken
     (c.push_reserved.ensures.items ∙ ap (λ (steps : List Step). steps ++ c.ended.result ∷ []) c.reserve.ensures.items)
-    (step_is c.self.inside.world c.step.new.self (value_event c.args.event) c.in_ok-start.start c.in_ok-posted.posted c.learned_at-learned.result c.ended.result
-    c.ended.ensures c.in_ok-start.ensures.start c.in_ok-posted.ensures.taken c.in_ok-posted.ensures.posted c.learned_at-learned.ensures)
+    (step_is c.self.inside.world c.step.new.self (value_event c.args.event) c.in_ok-start.start c.in_ok-posted.posted c.log_len_at-log_len.result c.ended.result
+    c.ended.ensures c.in_ok-start.ensures.start c.in_ok-posted.ensures.taken c.in_ok-posted.ensures.posted c.log_len_at-log_len.ensures)
     c.in_ok-posted.ensures.posted

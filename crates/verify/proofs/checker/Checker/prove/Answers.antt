@@ -21,9 +21,9 @@ returns-clause-answer c =
     read-proves c.args.frames.now.statements c.args.at s c.args.tokens.now c.requires.provable.1 (sym c.is_compressed.ensures ∙ c.if-not-is_compressed.false) _ _ _ _ (rw c.in-Some-2.is at c.in_ok-heading.ensures.read)
     c.in_ok-add_listed.field-0 c.if-not-branch.false (c.in_ok-add_listed.ensures.apart s c.requires.provable.1)
     (many c.args.frames.now.statements c.args.at s c.args.tokens.now c.requires.provable.1 (sym c.is_compressed.ensures ∙ c.if-not-is_compressed.false) c.as_slice-count.result.now (c.as_slice-count.ensures.value ∙ c.in_ok-fill_mandatory.ensures.mandatory s c.requires.provable.1))
-    c.check_listed.result
-    (subst (λ ns. IfOk c.check_listed.result (λ answer. IsAnswerTo answer (IsRight c.args.frames.now.statements c.args.at (items_of labels ns)))) c.numbers-numbers.ensures
-    (c.check_listed.ensures.answer labels (subst (AreEntries c.args.frames.now.statements c.args.at labels) (sym c.deref-2.ensures.value)
+    c.check_by_table.result
+    (subst (λ ns. IfOk c.check_by_table.result (λ answer. IsAnswerTo answer (IsRight c.args.frames.now.statements c.args.at (items_of labels ns)))) c.numbers-numbers.ensures
+    (c.check_by_table.ensures.answer labels (subst (AreEntries c.args.frames.now.statements c.args.at labels) (sym c.deref-2.ensures.value)
     (c.in_ok-add_listed.ensures.entries c.if-not-branch.false (mandatory_labels c.args.frames.now.statements c.args.at s) (c.in_ok-fill_mandatory.ensures.entries s c.requires.provable.1)))))
 
 pub prove_by_view-requires-clause-view : goal.prove_by_view-requires-clause-view

@@ -20,13 +20,13 @@ pub record AreNamed (names : List Name) (st : Results ℕ) : Type 0 where
   pub saved_named : AllBelow (length names) st.saved
 
 -- the item was done, or it cannot be done within the limit
-abbrev pub StepsByNumber : Bool → Database → ℕ → List Name → Item → Results ℕ → Results ℕ → Type 0
-StepsByNumber true S at names item old new = RunsItem S at (named names old) item (named names new) × AreNamed names new
-StepsByNumber false S at names item old new = (next : State) → RunsItem S at (named names old) item next → weight_limit < next.weight
+abbrev pub RunsItemByNumber : Bool → Database → ℕ → List Name → Item → Results ℕ → Results ℕ → Type 0
+RunsItemByNumber true S at names item old new = RunsItem S at (named names old) item (named names new) × AreNamed names new
+RunsItemByNumber false S at names item old new = (next : State) → RunsItem S at (named names old) item next → weight_limit < next.weight
 
 -- a label with this meaning was cited, which saves nothing; or it cannot be cited within the limit
 abbrev pub HasCited : Database → ℕ → List Name → LabelEntry → Results ℕ → Results ℕ → Bool → Type 0
-HasCited S at names entry old new ok = ((label : Name) → IsEntry S at label entry → StepsByNumber ok S at names (Cite label) old new) × (IsTrue ok → new.saved ≡ old.saved)
+HasCited S at names entry old new ok = ((label : Name) → IsEntry S at label entry → RunsItemByNumber ok S at names (Cite label) old new) × (IsTrue ok → new.saved ≡ old.saved)
 
 -- ---- results that are cached for the labels of the table, saved before those that were marked
 
@@ -50,8 +50,8 @@ pub record AreNamedAndCached (S : Database) (at : ℕ) (names : List Name) (tabl
   pub cached : AreCached S at names table st.saved
 
 -- the effect of an item if the first saved results are cached for labels
-abbrev pub StepsWithTable : Bool → Database → ℕ → List Name → List LabelEntry → Item → Results ℕ → Results ℕ → Type 0
-StepsWithTable ok S at names table item old new = StepsByNumber ok S at names item (without_cached (length table) old) (without_cached (length table) new) × (IsTrue ok → AreNamedAndCached S at names table new)
+abbrev pub RunsItemWithTable : Bool → Database → ℕ → List Name → List LabelEntry → Item → Results ℕ → Results ℕ → Type 0
+RunsItemWithTable ok S at names table item old new = RunsItemByNumber ok S at names item (without_cached (length table) old) (without_cached (length table) new) × (IsTrue ok → AreNamedAndCached S at names table new)
 
 -- ---- the requirements for running an item
 
