@@ -229,14 +229,14 @@ fn is_marked_number(
     is_marked(label_marks, Some(number - mandatory_count))
 }
 
-/// Returns whether one of the positions is marked. If `marks` has the flags of labels, `positions`
-/// are the numbers of items: a number that cites a label is the position of its flag, from 1.
-fn has_marked(positions: &[u32], marks: &[bool]) -> bool
-    ensures { result ≡ list_any (λ position. is_marked marks.now (Some position)) positions.now }
+/// Returns whether one of the numbers is marked. They are positions, or numbers of items if `marks`
+/// has the flags of labels: a number that cites a label is the place of its flag, from 1.
+fn has_marked(numbers: &[u32], marks: &[bool]) -> bool
+    ensures { result ≡ list_any (λ number. is_marked marks.now (Some number)) numbers.now }
 {
-    positions
+    numbers
         .iter()
-        .any(|position| is_marked(marks, Some(*position as usize)))
+        .any(|number| is_marked(marks, Some(*number as usize)))
 }
 
 /// Returns whether a token before `)` is the label of a marked statement.
