@@ -87,7 +87,7 @@ impl LegalDatabase {
     ///
     /// Errors: an allocation fails. Cost: that of the proofs, divided among the workers. In each
     /// range of at most 2,048 statements the calling thread may judge proofs again: those after the
-    /// first wrong one, those that a worker puts off for want of memory, or all of them if
+    /// first wrong one, those that a worker puts off for lack of memory, or all of them if
     /// `verify_pool::judge_all` judges all jobs again.
     /// Source: Metamath, 4.2.6 and appendix B.
     pub fn unproved<R: Threads + Sync>(

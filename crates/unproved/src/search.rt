@@ -33,7 +33,7 @@ pub(crate) struct Search<'a, R: Threads + Sync> {
 ///
 /// Errors: an allocation fails. Cost: that of the proofs, divided among the workers. The calling
 /// thread may judge proofs again: those after a wrong one in its range, those that a worker puts
-/// off for want of memory, or all of a range if `judge_all` judges all jobs again.
+/// off for lack of memory, or all of a range if `judge_all` judges all jobs again.
 pub(crate) fn find_unproved<R: Threads + Sync>(
     search: &Search<'_, R>,
 ) -> Result<Vec<usize>, AllocError>
