@@ -17,7 +17,7 @@ take-get (suc n) i [] x e = absurd (cc)
 take-get (suc n) zero (y ∷ xs) x e = (omega arith, e)
 take-get (suc n) (suc i) (y ∷ xs) x e = let r = take-get n i xs x e in (omega (arith, r.0), r.1)
 
--- ---- the statements before the record s, whose numbers and groups begin where the shorter buffers a and g end
+-- ---- the statements in front of the record s, whose numbers and groups begin where the shorter buffers a and g end
 
 module _ (a b : List ℕ) (g h : List BufferPart) (s : StatementRecord) (ts : List StatementRecord) (more : Extends a b) (more_groups : Extends g h) (from : s.from ≡ length a) (groups : s.groups_from ≡ length g) where
   next-end : (rs : List StatementRecord) → end_by b (slice_get (rs ++ s ∷ ts) 0) ≡ end_by a (slice_get rs 0)

@@ -24,7 +24,7 @@ same-split b h (p ∷ xs) ys (q ∷ us) vs x u y v e =
     let r = same-split b h xs ys us vs x.1 u.1 y v (cc) in
     let t : p ≡ q = cc in cc
 
--- ---- the statements before the last open block
+-- ---- the statements in front of the last open block
 
 module _ (kind : Stmt → Bool) (no_open : kind stmt.Open ≡ false) (S : Database) (block : ℕ) (is : block ≡ last_active_of_kind is_open S) where
   -- if p is not after the last open `${` and the other active statements are, those up to p are the ones active before the `${`

@@ -12,7 +12,7 @@ some-map None P Q f p = p
 -- ---- an assertion of the storage
 
 module _ (k : Storage) (a i : ℕ) (s : Stmt) (e : Entry) (stored : AreStored k) (asserts : is_assertion s ≡ true) (t : IsThere k a i s e) where
-  -- the statements before the assertion
+  -- the statements earlier than the assertion
   abbrev T : Database
   T = take (a - 1) (statements_of k)
 

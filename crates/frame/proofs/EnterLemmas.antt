@@ -160,7 +160,7 @@ module _ {old new : Storage} {s : Stmt} {h : EntryHeader} {a : Assertion} {codes
   len : length (statements_of old) ≡ length old.entries
   len = length-map old.entries (stmt_of (names_in old) (labels_in old))
 
-  -- the statements before an earlier entry, or before the new one, are as before
+  -- the statements in front of an earlier entry, or before the new one, are as before
   early : (i : ℕ) → i < length old.entries → take i (map (stmt_of (names_in new) (labels_in new)) entries) ≡ take i (statements_of old)
   early i lt = ap (take i) pushed-statements ∙ take-append-le i (statements_of old) (bare s ∷ []) (omega (arith, lt, len))
 

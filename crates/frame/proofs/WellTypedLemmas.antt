@@ -36,7 +36,7 @@ module _ (S : Database) (a : ℕ) (s : Stmt) (legal : AllKept S) (is : HasAssert
     pub at : p ≡ suc (length front)
     pub stays : stays_open 0 rest ≡ true
 
-  -- the statements before it
+  -- the earlier statements
   front-before : (p : ℕ) (A : Database) (t : Stmt) (B : Database) → T ≡ A ++ t ∷ B → p ≡ suc (length A) → before S p ≡ A
   front-before p A t B whole at =
       let less = (take-get (a - 1) (length A) S t (ap (λ w. slice_get w (length A)) whole ∙ stands-at A t B)).0 in

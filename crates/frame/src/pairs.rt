@@ -13,7 +13,7 @@ use std::marker::Model;
 
 /// The `$d` that are active at a position.
 ///
-/// Contracts see the statements before the position, and the names that numbers stand for.
+/// Contracts see the earlier statements, and the names that numbers stand for.
 #[derive(Drop)]
 pub struct Pairs<'a> {
     /// The statements.

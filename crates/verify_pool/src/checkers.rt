@@ -17,7 +17,7 @@ pub struct Worker {
     /// The least index of a job that was judged and is not right, `None` if there is none; an error
     /// if a job could neither be judged nor be put off.
     pub least: Result<Option<usize>, AllocError>,
-    /// The indexes of the jobs that were put off, since they need more memory or an allocation failed.
+    /// The indexes of the jobs that were put off, because they are heavy or an allocation failed.
     pub deferred: Vec<usize>,
 }
 
