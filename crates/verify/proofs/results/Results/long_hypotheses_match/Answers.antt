@@ -39,7 +39,7 @@ pub essential_matches-matched-requires-clause-same : goal.essential_matches-matc
 essential_matches-matched-requires-clause-same c = λ t left l.
     let s = c.requires.assertion.0 in
     let S = c.args.frames.now.statements in
-    left-same S c.args.frames.now.names c.args.cited s c.args.hypotheses.now (images_at c.self.inside.symbols c.self.inside.images) c.loop-k.remaining.keys (c.requires.legal.bound c.args.cited s c.requires.assertion.1) c.requires.legal.distinct c.requires.assertion.1.0 c.requires.numbered_hypotheses
+    left-same S c.args.frames.now.names c.args.cited s c.args.hypotheses.now (images_at c.self.inside.symbols c.self.inside.images) c.loop-k.remaining.keys (c.requires.legal.well_typed c.args.cited s c.requires.assertion.1) c.requires.legal.distinct c.requires.assertion.1.0 c.requires.numbered_hypotheses
     (subst (λ σ. AreListed S c.args.frames.now.names c.args.cited c.args.hypotheses.now σ c.loop-k.remaining.keys) (sym (ap (λ v. v.images) c.self.view_is)) (c.loop-k.invariant.are_listed t))
     c.loop-k.k c.in-Essential.position c.expr-expr.result.now left (c.get.ensures ∙ ap Some c.in-Essential.is) c.expr-expr.ensures.codes c.expr-expr.ensures.same l
 
