@@ -1,4 +1,5 @@
--- The invariant of a cell: its entries are within the limit, and its library is that of the first of them.
+-- The invariant of a cell: its entries are within the limit, and its library is that of the first
+-- of them.
 use Rattle.cluster.proofs.Words.{◌≡◌, ℕ, ◌<◌, Bool, true, false, List, [], ◌∷◌, ◌++◌, length, slice_get, Option, Some, None, Result, Ok, Err, refl, ap, sym, subst, arith, length-append, IsSome, option_map, Bor, SLOTS, Verdict, Carried, StepFault, entry_of, entries_of, NodeLibrary, AppliesNext, entries_begin, entries_of-get, entries_of-none, of_longer, of_log_applied, Cell, IsCell, AddsEntry, next_entry, Entry}
 
 -- the cell as a call sees it

@@ -1,4 +1,5 @@
--- The names used in the proofs of this crate, with lemmas of std and of the layers below, re-exported from one place.
+-- The names used in the proofs of this crate, with lemmas of std and of the layers below,
+-- re-exported from one place.
 pub use Rattle.cluster.specs.Belongs.{Belongs, EachBelongs, IsAhead}
 pub use Rattle.cluster.specs.Cell.{AddsEntry, Cell, IsCell, TakesOver, new_cell, next_entry}
 pub use Rattle.cluster.specs.Cells.{new_cells}
@@ -14,7 +15,7 @@ pub use Rattle.net.specs.History.{History}
 pub use Rattle.net.specs.World.{World, log, log_after}
 pub use Rattle.net.specs.declared.fault.StepFault.{StepFault}
 pub use Rattle.net.specs.declared.fault.StepFault.TheVariants.{NoNode}
-pub use Rattle.slots.specs.FiniteMap.{entry_at, put_at, trim_head, trimmed}
+pub use Rattle.slots.specs.FiniteMap.{entry_at, put_at, with_head, trimmed}
 pub use Rattle.slots.specs.declared.slots.TheConstants.{SLOTS}
 pub use Rattle.std.proofs.Common.{Bool, Err, List, None, Ok, Option, Result, Some, [], add-one, ap, append-nil, append_assoc, arith, drop, false, inl, inr, le_of_suc-le-suc, length, length-append, nat_lt, refl, slice_get, subst, suc, sym, take, true, zero, ℕ, ◌++◌, ◌+◌, ◌<◌, ◌∙◌, ◌∷◌, ◌≡◌, ◌≤◌}
 pub use Rattle.std.proofs.lemmas.Bool.Decides.{nat_tests}

@@ -1,4 +1,5 @@
-//! Questions about a cell: any question to the cell of node `k` (`ask_on`), and the outcome of an entry (`outcome_on`).
+//! Questions about a cell: any question to the cell of node `k` (`ask_on`), and the outcome of an
+//! entry (`outcome_on`).
 ghost use Rattle.std.specs.Prelude.{◌≡◌, ◌↔◌, Err, IfOk, IsOk, IsTrue, Some};
 ghost use Rattle.std.specs.Fn.{FnOnceReturnsAt};
 ghost use Rattle.net.specs.declared.fault.StepFault.TheVariants.{Apart};
@@ -30,8 +31,8 @@ pub fn ask_on<T, F: FnOnce(&NodeCell) -> T + Drop>(
     Ok(question(cell))
 }
 
-/// Returns the verdict of the cell's library on the entry, or `Repeat` if the library decided another entry under the
-/// same author and serial number. Returns `None` if it decided none.
+/// Returns the verdict of the cell's library on the entry, or `Repeat` if the library decided
+/// another entry under the same author and serial number. Returns `None` if it decided none.
 ///
 /// Cost: that of `Library::status`; if there is a verdict, one pass over the entries taken over,
 /// and one comparison of two entries.

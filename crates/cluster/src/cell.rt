@@ -1,16 +1,16 @@
-//! The cell of a node: the entries that were taken over from its log, and the library of those applied.
+//! The cell of a node: the entries that were taken over from its log, and the library of those
+//! applied.
 ghost use Rattle.std.specs.Prelude.{◌≡◌, ◌↔◌, ◌<◌, ◌≤◌, IsTrue, [], Ok, Err, Some, None, length, slice_get, option_map, IsOk, IfOk, OnOk, OnErr, IsOkUnless};
 ghost use Rattle.std.specs.List.{AllByRecursion};
 ghost use Rattle.library.specs.Listed.{listed};
 ghost use Rattle.synod.specs.Record.{new_kept};
 ghost use Rattle.net.specs.declared.fault.StepFault.TheVariants.{NoNode, Memory};
-ghost use Rattle.net.specs.World.{log_after};
 ghost use Rattle.world.specs.Carried.{carried_size};
 ghost use Rattle.world.specs.WorldView.{AppliesNext};
 ghost use Rattle.switch.specs.Switch.{new_views, world_of};
 ghost use Rattle.cluster.specs.Belongs.{Belongs, EachBelongs};
 ghost use Rattle.cluster.specs.Cells.{new_cells};
-ghost use Rattle.cluster.specs.Cell.{Cell, new_cell, IsCell, AddsEntry, TakesOver, next_entry};
+ghost use Rattle.cluster.specs.Cell.{Cell, new_cell, IsCell, AddsEntry, TakesOver, next_entry, next_log_entry};
 
 use crate::log::is_log_prefix;
 use library::{Library, Listed, Verdict};
@@ -76,7 +76,8 @@ impl NodeCell {
         self.node_library.library()
     }
 
-    /// Returns the entries taken over from the node's log, in order; `None` is a no-operation. It does not allocate.
+    /// Returns the entries taken over from the node's log, in order; `None` is a no-operation. It
+    /// does not allocate.
     pub fn entries(&self) -> &[Option<Carried>]
         ensures { result.now ≡ self.now.entries }
     {
@@ -106,29 +107,29 @@ impl NodeCell {
     }
 }
 
-/// Returns whether the cell belongs to the switch: the switch has the cell's node, and the entries that the cell has
-/// taken over are a prefix of that node's log.
+/// Returns whether the cell belongs to the switch: the switch has the cell's node, and the entries
+/// that the cell has taken over are a prefix of that node's log.
 ///
 /// Cost: the size of the entries taken over, each compared with one of the log.
 pub fn belongs<K: Keep<Carried>>(cell: &NodeCell, switch: &Switch<Carried, K>) -> bool
     ensures belongs { IsTrue result ↔ Belongs cell.now switch.now }
-    ensures taken { IsOk (world_of carried_size switch.now) }
+    ensures history_taken { IsOk (world_of carried_size switch.now) }
 {
     is_log_prefix(switch, cell.node, &cell.entries)
 }
 
-/// Takes over the next entry of the node's log, and returns whether there is one. The clause
-/// `taken` is about the history of the switch, not about the entry.
+/// Takes over the next entry of the node's log, and returns whether there is one.
 ///
-/// Errors: `NoNode` if the switch has no such node; else `Memory` if an allocation fails. Nothing is then taken over.
+/// Errors: `NoNode` if the switch has no such node; else `Memory` if an allocation fails. Nothing
+/// is then taken over.
 /// Cost: one copy of an entry.
 pub fn take_on<K: Keep<Carried>>(
     cell: &mut NodeCell,
     switch: &Switch<Carried, K>,
 ) -> Result<bool, StepFault>
-    ensures taken { IsOk (world_of carried_size switch.now) }
+    ensures history_taken { IsOk (world_of carried_size switch.now) }
     ensures no_node { length switch.now.stores ≤ cell.old.node → (result ≡ Err NoNode) × (cell.new ≡ cell.old) }
-    ensures takes { cell.old.node < length switch.now.stores → TakesOver cell.old cell.new (slice_get (log_after (world_of carried_size switch.now) cell.old.node) (length cell.old.entries)) result }
+    ensures takes { cell.old.node < length switch.now.stores → TakesOver cell.old cell.new (next_log_entry switch.now cell.old) result }
     ensures belongs { Belongs cell.old switch.now → Belongs cell.new switch.now }
 {
     let slot = cell.entries.len() as u32;
@@ -159,9 +160,11 @@ fn add_entry(
     }
 }
 
-/// Applies the next of the entries taken over, and returns its verdict, or `None` if all are applied.
+/// Applies the next of the entries taken over, and returns its verdict, or `None` if all are
+/// applied.
 ///
-/// Errors: `Memory`; the entry is then still to be applied. Cost: that of `Library::apply` on the entry.
+/// Errors: `Memory`; the entry is then still to be applied. Cost: that of `Library::apply` on the
+/// entry.
 pub fn apply_on(cell: &mut NodeCell) -> Result<Option<Verdict>, StepFault>
     ensures applies { AppliesNext cell.old.node_library cell.new.node_library (next_entry cell.old) result }
     ensures rest { cell.new ≡ record cell.old { node_library = cell.new.node_library } }
@@ -174,8 +177,9 @@ pub fn apply_on(cell: &mut NodeCell) -> Result<Option<Verdict>, StepFault>
 /// workers in parallel, on threads that `rt` starts. Each worker calls `Gate::pass` before each
 /// proof. The number of workers can change only whether `Memory` is returned.
 ///
-/// Errors: those of `apply_on`; `Memory` may also be returned if a proof is too heavy for a worker and the gate keeps
-/// heavy proofs out (`Gate::admits_heavy`). Cost: that of `Library::apply_with` on the entry.
+/// Errors: those of `apply_on`; `Memory` may also be returned if a proof is too heavy for a worker
+/// and the gate keeps heavy proofs out (`Gate::admits_heavy`). Cost: that of `Library::apply_with`
+/// on the entry.
 pub fn apply_on_with<G: Gate + Sync, R: Threads + Sync>(
     rt: &R,
     cell: &mut NodeCell,
@@ -206,8 +210,8 @@ pub fn list_on(cell: &NodeCell) -> Result<Vec<Listed>, AllocError>
     cell.node_library.library().list()
 }
 
-/// Creates a switch of new nodes, one for each weight, and their cells. There has to be one keep for each weight, with
-/// the record of a new node.
+/// Creates a switch of new nodes, one for each weight, and their cells. There has to be one keep
+/// for each weight, with the record of a new node.
 ///
 /// Errors: `Memory`.
 pub fn cells<K: Keep<Carried>>(

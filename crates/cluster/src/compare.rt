@@ -19,8 +19,8 @@ pub enum Ahead {
     Second,
 }
 
-/// Returns which of two cells that belong to one switch has the library with more statements, if one has. The
-/// statements of the other are a prefix of them. It does not allocate.
+/// Returns which of two cells that belong to one switch has the library with more statements, if
+/// one has. The statements of the other are a prefix of them. It does not allocate.
 ///
 /// Cost: constant; the two counts are compared.
 pub fn compare_on<K: Keep<Carried>>(
@@ -32,8 +32,8 @@ pub fn compare_on<K: Keep<Carried>>(
     requires other { Belongs other.now switch.now }
     ensures { IsAhead result one.now.node_library.library.statements other.now.node_library.library.statements }
 {
-    // The switch has the node of `one`, so this call of `entry` succeeds; its clause `taken` states that the history of
-    // the switch is taken.
+    // The switch has the node of `one`, so this call of `entry` succeeds; its clause
+    // `history_taken` states that the history of the switch is taken.
     prove!(switch.entry(one.node(), 0).is_ok());
     ahead_of(one.library(), other.library())
 }

@@ -52,11 +52,11 @@ pub fn deliver_on<V: Value, K: Keep<V>>(
     switch.play(Event::Deliver(number))
 }
 
-/// Restarts the cell's node. The cell is then that of a new node: nothing is taken over, and the library is empty.
-/// Returns the number of packets posted so far.
+/// Restarts the cell's node. The cell is then that of a new node: nothing is taken over, and the
+/// library is empty. Returns the number of packets posted so far.
 ///
-/// Errors: those of `Switch::play`; the cell is then as before. Cost: that of `Switch::play`, and of dropping the
-/// entries and the library.
+/// Errors: those of `Switch::play`; the cell is then as before. Cost: that of `Switch::play`, and
+/// of dropping the entries and the library.
 pub fn restart_on<K: Keep<Carried>>(
     cell: &mut NodeCell,
     switch: &mut Switch<Carried, K>,

@@ -9,13 +9,14 @@
 //! those of `NodeCell::library`.
 //!
 //! Do not confuse two words: an entry is taken over into a cell (`take_on`), and a history is taken
-//! if none of its events is refused (the clauses named `taken`).
+//! if none of its events is refused (the clauses named `history_taken`).
 //!
-//! `cells` creates a switch and the cells that belong to it. They still belong to it after each call of this crate, if
-//! each call is given cells only with the switch that they were created with. `compare_on` returns which of two such
-//! cells is ahead.
+//! `cells` creates a switch and the cells that belong to it. They still belong to it after each
+//! call of this crate, if each call is given cells only with the switch that they were created
+//! with. `compare_on` returns which of two such cells is ahead.
 //!
-//! Read the definitions, specs/Cell and Belongs; then `memory_keep`, `cell`, `log`, `events`, `asking` and `compare`.
+//! Read the definitions, specs/Cell and Belongs; then `memory_keep`, `cell`, `log`, `events`,
+//! `asking` and `compare`.
 #![tactic(auto)]
 
 mod asking;

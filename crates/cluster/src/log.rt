@@ -21,7 +21,7 @@ pub(crate) fn is_log_prefix<K: Keep<Carried>>(
 ) -> bool
     requires { length entries.now ≤ SLOTS }
     ensures begins { IsTrue result ↔ IsLogPrefix carried_size switch.now k entries.now }
-    ensures taken { IsOk (world_of carried_size switch.now) }
+    ensures history_taken { IsOk (world_of carried_size switch.now) }
 {
     if switch.entry(k, 0).is_err() {
         return false;
@@ -62,8 +62,8 @@ fn is_equal_value(found: Option<&Option<Carried>>, entry: &Option<Carried>) -> b
     }
 }
 
-/// Returns whether two entries are the same: two texts, or two charters, of the same author and serial
-/// number, with the same bytes or names. It does not allocate.
+/// Returns whether two entries are the same: two texts, or two charters, of the same author and
+/// serial number, with the same bytes or names. It does not allocate.
 pub(crate) fn is_same_entry(one: &Entry, other: &Entry) -> bool
     ensures { IsTrue result ↔ (one.now ≡ other.now) }
 {

@@ -10,8 +10,8 @@ use slots::SLOTS;
 use std::alloc::{AllocError, Global};
 use synod::{AcceptedEntry, Change, Failed, Keep, Record, Value, copy_value};
 
-/// The stable storage of a node, in the memory of the process. A call fails if an allocation fails; a store also fails
-/// if its slot is not below `SLOTS`.
+/// The stable storage of a node, in the memory of the process. A call fails if an allocation fails;
+/// a store also fails if its slot is not below `SLOTS`.
 #[derive(Drop)]
 pub struct MemoryKeep<V: Value> {
     alloc: Global,
@@ -19,7 +19,8 @@ pub struct MemoryKeep<V: Value> {
     stored: Record<V>,
     /// The number of failed calls. A `Steps` is a count that only contracts see.
     failures: Steps,
-    /// The list of accepted entries does not end in an empty slot, so the slots up to the last entry are all of it.
+    /// The list of accepted entries does not end in an empty slot, so the slots up to the last
+    /// entry are all of it.
     ghost is_trimmed: { trimmed stored.kept.accepted ≡ stored.kept.accepted },
 }
 

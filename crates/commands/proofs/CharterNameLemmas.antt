@@ -10,6 +10,7 @@ abbrev pub passes_after : ℕ → Option ℕ → Option (List ℕ) → Bool
 passes_after count last None = false
 passes_after count last (Some numbers) = nat_lt 0 (count + length numbers) && nat_lt (count + length numbers) (MAX_NAMES + 1) && rising_after last numbers
 
--- the words are the rest of the names of a charter, after `count` numbers of which the last is given
+-- the words are the rest of the names of a charter, after `count` numbers of which the last is
+-- given
 abbrev pub are_names_after : ℕ → Option ℕ → Words → Bool
 are_names_after count last ws = passes_after count last (numbers_of ws)

@@ -1,4 +1,5 @@
--- The lines that scripts of `play` and of `serve` have in common, by their verb and the words after it.
+-- The lines that scripts of `play` and of `serve` have in common, by their verb and the words after
+-- it.
 -- Source: this project's own form.
 -- The code takes the words one after another.
 use Rattle.std.specs.Prelude.{ℕ, ◌&&◌, List, codes, Option, Some, None, option_map, if◌then◌else◌}

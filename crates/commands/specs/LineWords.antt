@@ -1,6 +1,7 @@
 -- The words of a line: a verb, then numbers, nodes, entries by their author and serial number.
 -- Source: this project's own form.
--- The code takes one word after another; here a definition returns the value of the first words and the words after them.
+-- The code takes one word after another; here a definition returns the value of the first words and
+-- the words after them.
 use Rattle.std.specs.Prelude.{ℕ, Bool, true, false, List, [], ◌∷◌, Option, Some, None, option_map, option_and_then, nat_lt, if◌then◌else◌}
 use Rattle.numbers.specs.Numbers.{number_of}
 use Rattle.commands.specs.Pieces.{split_at}
@@ -67,7 +68,8 @@ two_nodes ws = do
   k ← one_node j.1
   Some (record { first = j.0; second = k })
 
--- the first three words as a node, an author and a serial number (K AUTHOR SERIAL), and the words after them
+-- the first three words as a node, an author and a serial number (K AUTHOR SERIAL), and the words
+-- after them
 abbrev pub first_entry_id : Words → Option (NodeEntryId × Words)
 first_entry_id ws = do
   k ← first_number ws

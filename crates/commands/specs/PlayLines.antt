@@ -35,6 +35,7 @@ play_without_text lines verb ws = without_text (line_or_common_line (play_only_l
 abbrev pub play_line_by : List (List ℕ) → List ℕ → Words → Option (PlayLine × ℕ)
 play_line_by lines verb ws = text_line_or_else (λ o. Common (Offer o)) (play_text_form verb) (play_without_text lines verb ws) ws lines
 
--- the line of `play` that these bytes are, given the lines that follow, and how many of those are its text
+-- the line of `play` that these bytes are, given the lines that follow, and how many of those are
+-- its text
 abbrev pub play_line_of : List ℕ → List (List ℕ) → Option (PlayLine × ℕ)
 play_line_of line lines = line_by_first_word (play_line_by lines) line

@@ -40,6 +40,7 @@ add_line_or_else lines verb ws = text_line_or_else (λ o. Add o) (add_form verb)
 abbrev pub serve_line_by : List (List ℕ) → List ℕ → Words → Option (ServeLine × ℕ)
 serve_line_by lines verb ws = text_line_or_else (λ o. Common (Offer o)) (submit_form verb) (add_line_or_else lines verb ws) ws lines
 
--- the line of `serve` that these bytes are, given the lines that follow, and how many of those are its text
+-- the line of `serve` that these bytes are, given the lines that follow, and how many of those are
+-- its text
 abbrev pub serve_line_of : List ℕ → List (List ℕ) → Option (ServeLine × ℕ)
 serve_line_of line lines = line_by_first_word (serve_line_by lines) line

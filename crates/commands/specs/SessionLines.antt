@@ -1,4 +1,5 @@
--- The lines of a session (`serve --live`), and the end of a text that a line gives on the lines that follow.
+-- The lines of a session (`serve --live`), and the end of a text that a line gives on the lines
+-- that follow.
 -- Source: this project's own form.
 -- The code reads a line, then the lines of its text, and then parses all of them.
 use Rattle.std.specs.Prelude.{ℕ, Bool, true, false, List, codes, Option, Some, None, option_map}
@@ -19,7 +20,8 @@ abbrev pub help_or_line : Bool → Option (ServeLine × ℕ) → Option (Session
 help_or_line true otherwise = Some (Help, 0)
 help_or_line false otherwise = option_map (λ l. (Serve l.0, l.1)) otherwise
 
--- the line of a session that these bytes are, given the lines that follow, and how many of those are its text
+-- the line of a session that these bytes are, given the lines that follow, and how many of those
+-- are its text
 abbrev pub session_line_of : List ℕ → List (List ℕ) → Option (SessionLine × ℕ)
 session_line_of line lines = help_or_line (bytes_eq line (codes "help")) (serve_line_of line lines)
 
@@ -28,7 +30,8 @@ abbrev pub first_form : Option TextForm → Option TextForm → Option TextForm
 first_form (Some form) other = Some form
 first_form None other = other
 
--- where a text ends: at the first line that is a word alone, or at a line feed after a number of bytes
+-- where a text ends: at the first line that is a word alone, or at a line feed after a number of
+-- bytes
 pub data End : Type 0 where
   word : List ℕ → End
   bytes : ℕ → End
@@ -38,13 +41,15 @@ abbrev pub end_view : TextEnd → End
 end_view (AtWord w) = word w.now
 end_view (AfterBytes n) = bytes n
 
--- where a text in this form ends, given the words after its author and serial number; a text on the line ends with the line
+-- where a text in this form ends, given the words after its author and serial number; a text on the
+-- line ends with the line
 abbrev pub end_by : TextForm → Words → Option End
 end_by Rest ws = None
 end_by Lines ws = option_map (λ w. word w) (one_word ws)
 end_by Bytes ws = option_map (λ n. bytes n) (one_number ws)
 
--- where the text of the line with this verb and these words ends, if the text is on the lines that follow
+-- where the text of the line with this verb and these words ends, if the text is on the lines that
+-- follow
 abbrev pub text_end_by : List ℕ → Words → Option End
 text_end_by verb ws = do
   form ← first_form (submit_form verb) (add_form verb)

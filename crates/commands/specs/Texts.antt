@@ -1,6 +1,7 @@
 -- The texts that lines give, and how many of the lines that follow are the text.
 -- Source: this project's own form.
--- The code takes one line after another, or skips a number of bytes; here a text is taken from all lines that follow.
+-- The code takes one line after another, or skips a number of bytes; here a text is taken from all
+-- lines that follow.
 use Rattle.std.specs.Prelude.{ℕ, ◌+◌, ◌==◌, List, [], ◌∷◌, ◌++◌, take, slice_index, count_by, Option, Some, None, option_map, if◌then◌else◌}
 use Rattle.std.specs.List.{join_with_byte}
 use Rattle.std.specs.Str.{bytes_eq}
@@ -10,14 +11,16 @@ use Rattle.commands.specs.declared.text_form.TextForm.{TextForm}
 use Rattle.commands.specs.declared.text_form.TextForm.TheVariants.{Rest, Lines, Bytes}
 use Rattle.commands.specs.LineWords.{◌>>=◌, Words, last_value, one_number}
 
--- the form of the text that a verb gives: `rest` on the line, `lines` on lines that follow, `bytes` as a number of bytes
+-- the form of the text that a verb gives: `rest` on the line, `lines` on lines that follow, `bytes`
+-- as a number of bytes
 abbrev pub form_by : List ℕ → List ℕ → List ℕ → List ℕ → Option TextForm
 form_by rest lines bytes verb =
     if bytes_eq verb rest then Some Rest else (
     if bytes_eq verb lines then Some Lines else (
     if bytes_eq verb bytes then Some Bytes else None))
 
--- the lines before the first that is the word alone, each with its line feed, and their count together with that line
+-- the lines before the first that is the word alone, each with its line feed, and their count
+-- together with that line
 abbrev pub lines_before : List ℕ → List (List ℕ) → Option (List ℕ × ℕ)
 lines_before word [] = None
 lines_before word (line ∷ lines) =
@@ -39,7 +42,8 @@ one_word [] = None
 one_word ([] ∷ ws) = None
 one_word ((c ∷ cs) ∷ ws) = last_value (c ∷ cs, ws)
 
--- the text that the words give in this form, given the lines that follow, and how many of those it takes
+-- the text that the words give in this form, given the lines that follow, and how many of those it
+-- takes
 abbrev pub text_in_form : TextForm → Words → List (List ℕ) → Option (List ℕ × ℕ)
 text_in_form Rest ws lines = Some (join_with_byte SPACE ws, 0)
 text_in_form Lines ws lines = do

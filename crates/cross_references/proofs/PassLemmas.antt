@@ -239,7 +239,8 @@ added-more S axioms p old mid new s list stands first is more =
         inl (subst (λ t. IsTrue (is_axiom t)) same there.kind, h.1)
     from q (inr i) = inr (subst (In q) (sym is) i)
 
--- if a list of lists is lent whole and comes back with the same length, it is replaced by the one that came back
+-- if a list of lists is lent whole and comes back with the same length, it is replaced by the one
+-- that came back
 pub lent-lists : (n : ℕ) (s old : List (Vec ℕ)) → length s ≡ length old → n ≡ length old → take n (s ++ drop (length s) old) ≡ s
 lent-lists n s old same all =
     ap (λ r. take n (s ++ r)) (drop_all (length s) old (omega (arith, same))) ∙ (ap (take n) (append-nil s) ∙ take_all n s (omega (arith, same, all)))

@@ -10,7 +10,8 @@ pub record ArePositionsWhere (Holds : ℕ → Type 0) (positions : List ℕ) : T
   pub rising : Rises 0 positions
   pub holding : (a : ℕ) → IsIn a positions ↔ Holds a
 
--- a list for each statement, in order: for the statement at p exactly the positions a with `Relates p a`
+-- a list for each statement, in order: for the statement at p exactly the positions a with
+-- `Relates p a`
 pub record AreListsOf (S : Database) (Relates : ℕ → ℕ → Type 0) (lists : List (List ℕ)) : Type 0 where
   pub count : length lists ≡ length S
   pub each : (k : ℕ) → k < length S → ArePositionsWhere (Relates (suc k)) (get_or lists k [])

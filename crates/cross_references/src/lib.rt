@@ -1,7 +1,8 @@
-//! Finds the axioms that each theorem rests on and the theorems that cite each statement, for all statements of a library in
-//! one pass.
+//! Finds the axioms that each theorem rests on and the theorems that cite each statement, for all
+//! statements of a library in one pass.
 //!
-//! Reading order: `citations` (of one proof), `collector` (positions, each once), `references` (`cross_references`).
+//! Reading order: `citations` (of one proof), `collector` (positions, each once), `references`
+//! (`cross_references`).
 #![tactic(auto)]
 
 mod citations;

@@ -13,8 +13,8 @@ use library::Library;
 use mm_read::Stmt;
 use std::alloc::{AllocError, Global};
 
-/// Two lists of positions for each statement of a library. Statements are indexed from 0; the positions in a list count from
-/// 1 and ascend.
+/// Two lists of positions for each statement of a library. Statements are indexed from 0; the
+/// positions in a list count from 1 and ascend.
 #[derive(Drop)]
 pub struct CrossReferences {
     /// The positions of the `$a` that a `$p` rests on; empty for another statement.
@@ -96,7 +96,8 @@ fn append_citing_position(
     Ok(())
 }
 
-/// Returns the positions of the `$a` that are cited or that a cited statement rests on, in ascending order, each once.
+/// Returns the positions of the `$a` that are cited or that a cited statement rests on, in
+/// ascending order, each once.
 fn axioms_of_cited(
     statements: &[Stmt],
     axioms: &[Vec<usize>],
@@ -114,7 +115,8 @@ fn axioms_of_cited(
     collector.ordered()
 }
 
-/// Collects the position if the statement there is a `$a`, and the positions of the `$a` that the statement rests on.
+/// Collects the position if the statement there is a `$a`, and the positions of the `$a` that the
+/// statement rests on.
 fn add_axioms_of(
     statements: &[Stmt],
     axioms: &[Vec<usize>],

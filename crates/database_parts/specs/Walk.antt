@@ -21,7 +21,8 @@ is_listed_assertion labels s = false
 -- for each assertion with one of these labels among the first `passed` statements of the whole,
 -- both databases have the same assertion with its label
 abbrev pub HaveSameListedAssertions : Database → Database → List Name → ℕ → Type 0
-HaveSameListedAssertions whole part labels passed = (i : ℕ) (s : Stmt) → i ≤ passed → stmt_at whole i ≡ Some s → is_listed_assertion labels s ≡ true → (label : Name) → Carries whole i s label → HasSameAssertion whole part label
+HaveSameListedAssertions whole part labels passed = (i : ℕ) (s : Stmt) → i ≤ passed → stmt_at whole i ≡ Some s
+    → is_listed_assertion labels s ≡ true → (label : Name) → Carries whole i s label → HasSameAssertion whole part label
 
 -- an assertion has equal hypotheses, as statements, and equal groups after the statements of the
 -- two scopes

@@ -1,4 +1,5 @@
--- Statements in shared buffers: appending changes no statement, and the buffers can be truncated where a statement begins.
+-- Statements in shared buffers: appending changes no statement, and the buffers can be truncated
+-- where a statement begins.
 use Rattle.entries.proofs.Words.{◌≡◌, ℕ, zero, suc, ◌<◌, ◌≤◌, List, [], ◌∷◌, ◌++◌, length, take, slice_get, slice_range, Some, refl, ◌⊎◌, ◌∙◌, ap, arith, inl, inr, same_Some, StatementRecord, BufferPart, Extends, end_by, groups_by, numbers_by, spans_by, bodies_of, AreKept}
 use Rattle.entries.proofs.SpanLemmas.{range-extends, extends-length}
 

@@ -1,4 +1,5 @@
--- Sets of positions made of parts of others: rotations, and the insertion of a position into one of the parts.
+-- Sets of positions made of parts of others: rotations, and the insertion of a position into one of
+-- the parts.
 use Rattle.entries.proofs.Words.{◌≡◌, ℕ, ◌+◌, ◌-◌, ◌<◌, ◌≤◌, List, [], ◌∷◌, ◌++◌, length, true, inl, inr, take, drop, get_or, ap, subst, sym, refl, ◌∙◌, arith, append_assoc, cases_lt, get_or_past, take-append-drop, take_rest, drop_more, Node, set_at, Ascends, IsSet, count_below, has_position, with_position, joined, set_of, IsNodeOf, Extends}
 use Rattle.std.proofs.Common.{length-append}
 use Rattle.entries.proofs.SetNodeLemmas.{set_at-extends}

@@ -196,7 +196,8 @@ logged-change log log' hs gs c at stack seen old new are until same lt look read
     (logged-more log gs (slice_set gs c new) c at new (logged-same log hs gs same are) (λ d. subst (IsUntil at) (sym (same d)) (until d))
     (ap (map (λ u. u.since)) one ∙ map-append (λ u. u.since) (history gs c) (v ∷ [])) (set-with gs c new lt))
 
--- the last version of c, the last number in the log, is removed if it was made after `last`; else all versions stay
+-- the last version of c, the last number in the log, is removed if it was made after `last`; else
+-- all versions stay
 pub record IsPopStep (log : List ℕ) (hs : List (List StackVersion)) (c last : ℕ) (popped : Bool) (new : List StackVersion) : Type 0 where
   pub stays : popped ≡ false → AreLogged log (slice_set hs c new) × ((d : ℕ) → history (slice_set hs c new) d ≡ kept_until last (history hs d))
   pub goes : popped ≡ true → AreLogged (take (length log - 1) log) (slice_set hs c new) × ((d : ℕ) → kept_until last (history (slice_set hs c new) d) ≡ kept_until last (history hs d))

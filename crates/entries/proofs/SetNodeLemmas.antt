@@ -1,4 +1,5 @@
--- The nodes of sets of positions: the set of a node, and the sets after a node is appended or nodes are removed.
+-- The nodes of sets of positions: the set of a node, and the sets after a node is appended or nodes
+-- are removed.
 use Rattle.entries.proofs.Words.{◌≡◌, ℕ, ◌+◌, ◌-◌, ◌<◌, ◌≤◌, ◌^◌, List, [], ◌∷◌, ◌++◌, length, take, max, slice_get, Some, ap, subst, sym, refl, ◌∙◌, arith, suc, zero, inl, inr, append-nil, append_assoc, get_or_append_left, get_or_past, get_or_at, take_at, same_Some, slice_get_cases, Node, set_at, Ascends, IsSet, set_of, sets_from, sets_of, IsNode, AreNodes, AreSets, IsNodeOf, Extends}
 use Rattle.std.proofs.Common.{length-append, length-take}
 use Rattle.std.proofs.lemmas.List.{take_all}

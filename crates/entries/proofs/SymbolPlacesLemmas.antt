@@ -1,4 +1,5 @@
--- The symbols of an expression by their keys in order: each run of keys of one symbol gives a group of indexes.
+-- The symbols of an expression by their keys in order: each run of keys of one symbol gives a group
+-- of indexes.
 use Rattle.std.specs.Cmp.{both_ways}
 use Rattle.std.proofs.lemmas.List.Folds.{list_any_at, list_any_more}
 use Rattle.std.specs.Result.{MatchResult}

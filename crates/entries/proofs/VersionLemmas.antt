@@ -1,4 +1,5 @@
--- The versions of a stack: a version is added, the first ones alone, and the last one made before a position.
+-- The versions of a stack: a version is added, the first ones alone, and the last one made before a
+-- position.
 use Rattle.entries.proofs.Words.{◌≡◌, ◌⊎◌, inl, inr, ℕ, zero, suc, ◌+◌, ◌-◌, ◌<◌, ◌≤◌, true, false, nat_eq, nat_lt, cond, List, [], ◌∷◌, ◌++◌, length, take, get_or, slice_get, Some, None, refl, ◌∙◌, ap, sym, arith, append-nil, append_assoc, le-ltb, take_all, take-length, take-take, take-append_seam, get_or-append_seam, get_or_append_left, cases_lt, length-append, length-take, length-take-le, get_or-take, take_more, IsNonDecreasingBy-take, IsNonDecreasingBy-push, get_or_from_slice_get, slice_get-get_or, slice_get_within, IsPartitionPoint, RESTORED, Version, StackVersion, with_version, stack_from, stack_at, changed_at, IsUntil, no_version, last_stack, stack_after, stack_of, version_of, versions_after, versions_of, AreVersions, IsBefore, IsLinked, IsNext, IsReadable, IsUpToTop}
 use Rattle.std.proofs.lemmas.List.{take_min}
 use Rattle.std.proofs.Common.{lt-ltb}

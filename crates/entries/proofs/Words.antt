@@ -1,4 +1,5 @@
--- The definitions and lemmas of std and of the layers below that the proofs of this crate use, re-exported from one place.
+-- The definitions and lemmas of std and of the layers below that the proofs of this crate use,
+-- re-exported from one place.
 pub use Rattle.entries.specs.Entries.{AreShapedParts, Entry, assertion_of, entry_by}
 pub use Rattle.entries.specs.Histories.{AreSame, AreUntil, AreWith, IsUntil, StackVersion, with_version, reverted, history, changed_at, kept_until, pushed, stack_at, stack_from}
 pub use Rattle.entries.specs.PositionSets.{AreAbove, Ascends, IsSet, count_below, has_position, set_at, with_position}

@@ -40,6 +40,10 @@ reverted at before vs = with_version at (stack_at vs before) vs
 abbrev pub kept_until : ℕ → List StackVersion → List StackVersion
 kept_until last vs = filter (λ v. nat_le v.since last) vs
 
+-- the last version is removed if it was made after `last`; `removed` is whether it was
+abbrev pub IsPoppedAfter : ℕ → Bool → List StackVersion → List StackVersion → Type 0
+IsPoppedAfter last removed old new = (front : List StackVersion) → (v : StackVersion) → old ≡ front ++ v ∷ [] → (removed ≡ nat_lt last v.since) × (new ≡ (if nat_lt last v.since then front else old))
+
 -- no version was made after `at`
 abbrev pub IsUntil : ℕ → List StackVersion → Type 0
 IsUntil at [] = Unit {0}

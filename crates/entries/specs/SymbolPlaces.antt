@@ -2,7 +2,7 @@
 -- Source: Metamath, 4.2.6 (an image is substituted for each occurrence of a variable).
 -- The code keeps the indexes of all symbols in one list, those of one symbol after those of
 -- another.
-use Rattle.std.specs.Prelude.{◌≡◌, ℕ, suc, ◌<◌, ◌≤◌, ◌==◌, ◌⊎◌, Bool, false, not, List, [], ◌∷◌, length, filter, slice_get, Option, Some, None}
+use Rattle.std.specs.Prelude.{◌≡◌, ℕ, suc, ◌<◌, ◌≤◌, ◌==◌, ◌⊎◌, Bool, false, not, List, [], ◌∷◌, ◌++◌, length, filter, slice_get, Option, Some, None}
 use Rattle.std.specs.List.{All, Contains, list_any}
 use Rattle.std.specs.List.Sorted.{IsStrictlyIncreasing}
 use Rattle.entries.specs.declared.assertion_view.Hypothesis.{Hypothesis}
@@ -57,3 +57,8 @@ has_float hs c = list_any (is_float_of c) hs
 -- those of the symbols that are the variable of no `$f`
 abbrev pub without_float : List Hypothesis → List ℕ → List ℕ
 without_float hs symbols = filter (λ c. not (has_float hs c)) symbols
+
+-- the places of the symbols of an expression are added for the statement at `index`; its constants
+-- are the symbols that are the variable of no `$f` among the hypotheses
+abbrev pub AddsPlaces : ℕ → List ℕ → List Hypothesis → List (ℕ × SymbolGroups) → List (ℕ × SymbolGroups) → Type 0
+AddsPlaces index expr hs old new = (places : SymbolGroups) × ArePlacesOf expr places × (places.constants ≡ without_float hs places.symbols) × (new ≡ old ++ (index, places) ∷ [])

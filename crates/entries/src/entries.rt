@@ -1,6 +1,6 @@
 //! The statements of a database as numbers, by position.
 ghost use Rattle.std.specs.Prelude.{◌≡◌, ◌≤◌, ◌<◌, ◌+◌, ◌^◌, ◌++◌, ◌∷◌, [], length, take, slice_get, Some, OnOk, OnErr, IfOk, IfSome, IfNone, true, false};
-ghost use Rattle.{entries.specs.Entries.Entry, entries.specs.Entries.IsEntry, entries.specs.Entries.IsWholeView, entries.specs.Entries.AreShapedParts, entries.specs.Entries.assertion_of, entries.specs.Entries.entry_by, entries.specs.Stored.Records.IsPlaced, entries.specs.Stored.Records.IsStored, entries.specs.Stored.Records.has_parts, entries.specs.Stored.Records.layout_in, entries.specs.Stored.Records.record_by, entries.specs.Stored.Records.numbers_by, entries.specs.Stored.Records.numbers_of, entries.specs.Stored.Spans.Extends};
+ghost use Rattle.{entries.specs.Entries.Entry, entries.specs.Entries.IsEntry, entries.specs.Entries.IsWholeView, entries.specs.Entries.AreShapedParts, entries.specs.Entries.assertion_of, entries.specs.Entries.entry_by, entries.specs.Stored.Records.IsPlaced, entries.specs.Stored.Records.IsStored, entries.specs.Stored.Records.has_parts, entries.specs.Stored.Records.layout_in, entries.specs.Stored.Records.record_of, entries.specs.Stored.Records.numbers_by, entries.specs.Stored.Records.numbers_of, entries.specs.Stored.Spans.Extends};
 
 use crate::assertion_view::{AssertionView, Hypotheses};
 use crate::buffer_part::{BufferPart, item, part, to_u32};
@@ -257,7 +257,7 @@ fn add(
 ) -> Result<(), AllocError>
     ensures added { OnOk result (numbers.new.items ≡ numbers.old.items ++ numbers_of (has_parts parts.now) parts.now) }
     ensures groups { OnOk result (groups.new.items ≡ groups.old.items ++ parts.now.groups.now) }
-    ensures last { OnOk result (records.new.items ≡ records.old.items ++ record_by header.kind (has_parts parts.now) parts.now.whole (length numbers.old.items) (length groups.old.items) ∷ []) }
+    ensures last { OnOk result (records.new.items ≡ records.old.items ++ record_of header parts.now (length numbers.old.items) (length groups.old.items) ∷ []) }
     ensures state_before { OnOk result (states_before.new.items ≡ states_before.old.items ++ header.before ∷ []) }
     ensures same { OnErr result (records.new.items ≡ records.old.items) }
     ensures more_states_before { Extends states_before.old.items states_before.new.items }

@@ -1,6 +1,6 @@
 //! The versions of one stack of positions.
-ghost use Rattle.std.specs.Prelude.{◌≡◌, ◌∷◌, ◌++◌, [], false, nat_lt, if◌then◌else◌, OnOk, OnErr, IfOk, IsTrue, List};
-ghost use Rattle.{entries.specs.Histories.StackVersion, entries.specs.Histories.IsUntil, entries.specs.Histories.changed_at, entries.specs.Histories.pushed, entries.specs.Histories.reverted, entries.specs.Histories.stack_at, entries.specs.Stored.Versions.AreVersions, entries.specs.Stored.Versions.IsBefore, entries.specs.Stored.Versions.IsNext, entries.specs.Stored.Versions.IsUpToTop, entries.specs.Stored.Versions.versions_of};
+ghost use Rattle.std.specs.Prelude.{◌≡◌, ◌∷◌, [], false, OnOk, OnErr, IfOk, IsTrue, List};
+ghost use Rattle.{entries.specs.Histories.StackVersion, entries.specs.Histories.IsPoppedAfter, entries.specs.Histories.IsUntil, entries.specs.Histories.changed_at, entries.specs.Histories.pushed, entries.specs.Histories.reverted, entries.specs.Histories.stack_at, entries.specs.Stored.Versions.AreVersions, entries.specs.Stored.Versions.IsBefore, entries.specs.Stored.Versions.IsNext, entries.specs.Stored.Versions.IsUpToTop, entries.specs.Stored.Versions.versions_of};
 
 use crate::position_stack::PositionStack;
 use crate::room::give_back;
@@ -96,7 +96,7 @@ impl History {
     /// Removes the last version if it was made after `last`, and frees unused memory as `give_back`
     /// does. Returns whether it removed a version.
     pub fn pop_after(&mut self, last: u32) -> bool
-        ensures { (front : List StackVersion) → (v : StackVersion) → self.old ≡ front ++ v ∷ [] → (result ≡ nat_lt last v.since) × (self.new ≡ (if nat_lt last v.since then front else self.old)) }
+        ensures { IsPoppedAfter last result self.old self.new }
     {
         let Some(version) = self.versions.last() else {
             return false;

@@ -1,7 +1,7 @@
 //! Finds, for each long expression, the indexes at which each of its symbols occurs.
-ghost use Rattle.std.specs.Prelude.{◌≡◌, ◌<◌, ◌++◌, ◌∷◌, [], ℕ, List, nat_eq, nat_lt, Some, None, IfSome, IfNone, OnOk, OnErr};
+ghost use Rattle.std.specs.Prelude.{◌≡◌, ◌<◌, [], ℕ, List, nat_eq, nat_lt, Some, None, IfSome, IfNone, OnOk, OnErr};
 ghost use Rattle.std.specs.{List.All, List.filter, Map.lookup};
-ghost use Rattle.entries.specs.SymbolPlaces.{ArePlacesOf, SymbolGroups, without_float};
+ghost use Rattle.entries.specs.SymbolPlaces.{AddsPlaces};
 
 use crate::assertion_view::Hypotheses;
 use crate::room::give_back;
@@ -72,7 +72,7 @@ impl LongExpressions {
         hypotheses: &Hypotheses<'_>,
     ) -> Result<(), AllocError>
         requires { All (λ e. e.0 < index) self.old }
-        ensures added { OnOk result ((places : SymbolGroups) × ArePlacesOf expr.now places × (places.constants ≡ without_float hypotheses.now places.symbols) × (self.new ≡ self.old ++ (index, places) ∷ [])) }
+        ensures added { OnOk result (AddsPlaces index expr.now hypotheses.now self.old self.new) }
         ensures same { OnErr result (self.new ≡ self.old) }
     {
         let places = SymbolPlaces::of(self.alloc, expr, hypotheses)?;

@@ -63,7 +63,8 @@ lines_of_event (Restart node) = number_line (codes "restart") node
 abbrev pub lines_of_events : List (Event Carried) → List ℕ
 lines_of_events events = flat_map lines_of_event events
 
--- the line `events N`, where N is the number of line feeds of the lines of the events, and these lines
+-- the line `events N`, where N is the number of line feeds of the lines of the events, and these
+-- lines
 abbrev pub counted_event_lines : List (Event Carried) → List ℕ
 counted_event_lines events =
     codes "events " ++ decimal (count_by (λ b. b == LINE_FEED) (lines_of_events events)) ++ codes "\n" ++ lines_of_events events

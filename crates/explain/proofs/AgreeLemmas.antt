@@ -1,4 +1,5 @@
--- An expression with images substituted is compared with given symbols, one symbol of the expression after another.
+-- An expression with images substituted is compared with given symbols, one symbol of the
+-- expression after another.
 use Rattle.explain.proofs.Words.{◌≡◌, ℕ, zero, suc, ◌+◌, ◌<◌, List, [], ◌∷◌, ◌++◌, length, take, drop, get_or, refl, sym, ◌∙◌, ap, arith, append_assoc, append-nil, add-one, drop-cons, append_cancel_left, CodeImages, code_image, code_apply}
 
 apply-front : (σ : CodeImages) (e : List ℕ) (i : ℕ) → code_apply σ e ≡ code_apply σ (take i e) ++ code_apply σ (drop i e)

@@ -47,7 +47,8 @@ module _ (S : Database) (names : List Name) (σ : Images) (ps : List ℕ) (resul
 
 -- the fault of a result
 module _ (S : Database) (names : List Name) (distinct : AreDistinct names) (p typecode : ℕ) (kind : Hypothesis) (is : IsNumberedHypothesis S names p typecode kind) where
-  -- an expression whose first number is not this typecode does not begin with the name of the typecode
+  -- an expression whose first number is not this typecode does not begin with the name of the
+  -- typecode
   begins_other : (c : Name) (e : List ℕ) → typecode < length names → name_at names typecode ≡ c → AreBelow (length names) e → HasOtherTypecodeNumber typecode e → HasOtherTypecode c (decode names e)
   begins_other c [] h n below starts = tt
   begins_other c (x ∷ e) h n below starts = λ same. starts (name_at-injective names x typecode distinct below.0 h (same ∙ sym n))

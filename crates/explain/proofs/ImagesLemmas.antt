@@ -79,7 +79,8 @@ pub after_image_none : (symbols image : List ℕ) (r : Option (Bor (List ℕ)))
 after_image_none symbols image None h = λ rest e. prefix_none symbols image rest h e
 after_image_none symbols image (Some x) h = tt
 
--- if symbols are a list followed by a rest, they are equal to the list if and only if the rest is empty
+-- if symbols are a list followed by a rest, they are equal to the list if and only if the rest is
+-- empty
 pub nothing_left : (applied whole rest : List ℕ) → whole ≡ applied ++ rest → (b : Bool) → b ≡ (length rest == 0) → (b ≡ true) ↔ (whole ≡ applied)
 nothing_left applied whole rest front b is = (
   λ yes. front ∙ (ap (λ r. applied ++ r) (none rest (eqb-true (length rest) 0 (sym is ∙ yes))) ∙ append-nil applied),

@@ -49,7 +49,8 @@ module _ (labels : ℕ) (letters : List ℕ) (index limit digits begin : ℕ) (r
     greatest : limit ≡ length names + marks_in (items_of names r.numbers)
     greatest = r.limit_is ∙ (ap (λ n. n + zeros r.numbers) (sym count) ∙ ap (λ z. length names + z) (sym (marks-zeros names r.numbers)))
 
-    -- the letters that are begun are the beginning of a word with an allowed number, or there are none
+    -- the letters that are begun are the beginning of a word with an allowed number, or there are
+    -- none
     allowed : IsAllowedBeginning limit r.begun
     allowed = elim (zero-or digits) [ inl e ↦ inl (r.zero_digits e) | inr e ↦ inr (65 ∷ [], 20 * digits + 1, placed-number_of (r.begun ++ 65 ∷ []) (20 * digits + 1) (r.counts_begun (65 ∷ [])), let q = r.room e in omega (arith, q)) ]
 

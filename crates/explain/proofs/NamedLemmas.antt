@@ -93,7 +93,8 @@ read_step (x ∷ kinds) (y ∷ results) zero h within inside is r here =
     ap (λ z. code_image_at z y.now ++ code_images_read kinds (codes results)) is ∙ ap (λ (v : Bor (List ℕ)). code_image_at h v.now ++ code_images_read kinds (codes results)) (sym here)
 read_step (x ∷ kinds) (y ∷ results) (suc k) h within inside is r here = read_step kinds results k h (omega (arith, within)) (omega (arith, inside)) is r here
 
--- when the result for a `$f` is read, the images so far and those of the remaining results stay the same list
+-- when the result for a `$f` is read, the images so far and those of the remaining results stay the
+-- same list
 pub read_more : (kinds : List Hypothesis) (results : List (Bor (List ℕ))) (k x : ℕ) (old new : List Image) (image : Image) (whole : CodeImages) → k < length kinds → k < length results
     → get_or kinds k (Float 0) ≡ Float x → (r : Bor (List ℕ)) → r ≡ get_or results k r → image.variable ≡ x → image.symbols.now ≡ drop 1 r.now → new ≡ old ++ image ∷ []
     → code_images old ++ code_images_read (drop k kinds) (codes (drop k results)) ≡ whole

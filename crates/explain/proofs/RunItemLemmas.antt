@@ -50,14 +50,16 @@ module _ (S : Database) (at : ℕ) (h : State) (light : h.weight ≤ SYMBOLS_LIM
           e ∙ (sym (take_all (n + 1) (x ∷ xs) (omega arith)) ∙ take_more (x ∷ xs) n [] (omega arith)) in
           absurd (let over = stuck (with_mark h (get_or (x ∷ xs) n [])) (take n (x ∷ xs), get_or (x ∷ xs) n [], split, refl) in omega (arith, over, light))
 
-  -- with a recall of a saved result that has no step within the limit, the lengths of all results exceed it
+  -- with a recall of a saved result that has no step within the limit, the lengths of all results
+  -- exceed it
   pub recall_heavy : (k : ℕ) → ((next : State) → RunsItem S at h (Recall (suc k)) next → SYMBOLS_LIMIT < next.weight) → k < length h.saved
       → (e : Expr) × (slice_get h.saved k ≡ Some e) × (SYMBOLS_LIMIT < h.weight + length e)
   recall_heavy k stuck less =
       let there = slice_get-get_or h.saved k [] less in
       (get_or h.saved k [], there, stuck (with_result h h.stack (get_or h.saved k [])) (get_or h.saved k [], there, refl))
 
-  -- with a citation that has no step within the limit, the lengths of all results exceed it, if the statement gives a result
+  -- with a citation that has no step within the limit, the lengths of all results exceed it, if the
+  -- statement gives a result
   pub cite_stuck : (label : Name) (i : ℕ) (r : Stmt) → Carries S i r label → ((next : State) → RunsItem S at h (Cite label) next → SYMBOLS_LIMIT < next.weight)
       → (s : Stmt) (below : List Expr) (e : Expr) → stmt_at S i ≡ Some s → CitationGives S at i s h.stack below e → SYMBOLS_LIMIT < h.weight + length e
   cite_stuck label i r carries stuck s below e stands gives =

@@ -1,4 +1,5 @@
--- The rule of proof code that tokens break, if they write no items, and the first place at which they break it.
+-- The rule of proof code that tokens break, if they write no items, and the first place at which
+-- they break it.
 -- Source: Metamath, 4.3 (normal proofs) and appendix B (compressed proofs).
 -- The code reads tokens and letters from left to right.
 use Rattle.std.specs.Prelude.{◌≡◌, ◌≢◌, ℕ, suc, ◌+◌, ◌<◌, ◌≤◌, ◌⊎◌, Bool, not, ◌||◌, IsTrue, IsFalse, List, [], ◌∷◌, ◌++◌, length, flat_map}
@@ -52,11 +53,13 @@ BeginsWith P (letter ∷ letters) = P letter
 abbrev pub IsNotLetter : ℕ → Type 0
 IsNotLetter letter = IsFalse (is_leading letter) × IsFalse (is_last letter) × (letter ≢ 90)
 
--- the letter group has no letter yet, or some group with this beginning has a number up to the limit
+-- the letter group has no letter yet, or some group with this beginning has a number up to the
+-- limit
 abbrev pub IsAllowedBeginning : ℕ → List ℕ → Type 0
 IsAllowedBeginning limit begun = (begun ≡ []) ⊎ ((word : Name) × (n : ℕ) × IsNumber (begun ++ word) n × (n ≤ limit))
 
--- a letter A to Y such that every letter group beginning with `begun` and this letter has a number greater than the limit
+-- a letter A to Y such that every letter group beginning with `begun` and this letter has a number
+-- greater than the limit
 abbrev pub IsTooGreat : ℕ → List ℕ → ℕ → Type 0
 IsTooGreat limit begun letter = IsTrue (is_leading letter || is_last letter) × ((word : Name) (n : ℕ) → IsNumber (begun ++ letter ∷ word) n → limit < n)
 
@@ -74,7 +77,8 @@ fault_index NotEnded front begun = front
 fault_index EarlyMark front begun = front
 fault_index TooGreat front begun = front
 
--- the letters before a letter group write items, letters U to Y may begin the group, and the rest breaks a rule
+-- the letters before a letter group write items, letters U to Y may begin the group, and the rest
+-- breaks a rule
 pub record IsLetterBreak (labels : List Name) (letters : List ℕ) (broken : LetterBreak) : Type 0 where
   pub front : List ℕ
   pub items : List Item
@@ -89,7 +93,8 @@ pub record IsLetterBreak (labels : List Name) (letters : List ℕ) (broken : Let
 
 -- ---- tokens
 
--- this token, at this index after `(`, ends the listed labels: the first that is not a label or is a mandatory one
+-- this token, at this index after `(`, ends the listed labels: the first that is not a label or is
+-- a mandatory one
 pub record EndsListedLabels (tokens mandatory : List Name) (index : ℕ) (word : Name) (rest : List Name) : Type 0 where
   pub words : List Name
   pub whole : tokens ≡ left_parenthesis ∷ words
@@ -126,7 +131,8 @@ pub record AreLettersBroken (tokens mandatory : List Name) (broken : LetterBreak
   pub list_end : EndsListedLabels tokens mandatory index right_parenthesis rest
   pub letters : IsLetterBreak (mandatory ++ list_end.first.front) (joined rest) broken
 
--- the rule that the tokens break under these mandatory labels; a token has a `?` only if the rule is `Unfinished`
+-- the rule that the tokens break under these mandatory labels; a token has a `?` only if the rule
+-- is `Unfinished`
 abbrev pub IsBreak : List Name → List Name → CodeBreak → Type 0
 IsBreak tokens mandatory (Unfinished token) = (word : Name) × (rest : List Name) × IsFirst (has_fault mandatory token_fault.Unfinished) tokens token word rest
 IsBreak tokens mandatory (NotLabel token) = IsFalse (is_unfinished tokens) × IsNotLabel tokens mandatory token

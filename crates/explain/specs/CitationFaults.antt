@@ -1,6 +1,7 @@
 -- Faults of a citation of an assertion: a hypothesis that requires another result.
 -- Source: Metamath, 4.2.6.
--- The code compares numbers; these definitions compare expressions, under the images that the results themselves give.
+-- The code compares numbers; these definitions compare expressions, under the images that the
+-- results themselves give.
 use Rattle.std.specs.Prelude.{◌≡◌, ◌≢◌, ℕ, length, List, [], ◌∷◌, map, take, Option, Some, slice_get}
 use Rattle.explain.specs.Words.{Bor, Vec, Name, Stmt, Expr, Database, stmt_at, before, decode, Hypothesis, hypotheses, expr_at, Numbered}
 use Rattle.mm_read.specs.declared.stmt.Stmt.TheVariants as stmt
@@ -39,13 +40,15 @@ abbrev pub HasOtherTypecodeThan : Option Stmt → Expr → Type 0
 HasOtherTypecodeThan (Some (stmt.Float label constant variable)) e = HasOtherTypecode constant e
 HasOtherTypecodeThan s e = ⊥
 
--- the first of the mandatory hypotheses of the assertion s at a that requires another result than it has, under the images
--- that the results give
+-- the first of the mandatory hypotheses of the assertion s at a that requires another result than
+-- it has, under the images that the results give
 abbrev pub IsMismatchFault : Database → List Name → ℕ → Stmt → List Expr → ItemFault → Type 0
 IsMismatchFault S names a s rs (OtherExpression b p required actual) =
-    (b ≡ a) × ((k : ℕ) × IsFirstMismatch S (images_read S (hypotheses (before S a) s) rs) (hypotheses (before S a) s) rs k p (decode names required.items) (decode names actual.items))
+    (b ≡ a)
+    × ((k : ℕ) × IsFirstMismatch S (images_read S (hypotheses (before S a) s) rs) (hypotheses (before S a) s) rs k p (decode names required.items) (decode names actual.items))
 IsMismatchFault S names a s rs (OtherTypecode b p actual) =
-    (b ≡ a) × ((k : ℕ) × (required : Expr) × IsFirstMismatch S (images_read S (hypotheses (before S a) s) rs) (hypotheses (before S a) s) rs k p required (decode names actual.items)
+    (b ≡ a)
+    × ((k : ℕ) × (required : Expr) × IsFirstMismatch S (images_read S (hypotheses (before S a) s) rs) (hypotheses (before S a) s) rs k p required (decode names actual.items)
     × HasOtherTypecodeThan (stmt_at S p) (decode names actual.items))
 IsMismatchFault S names a s rs fault = ⊥
 
@@ -65,10 +68,16 @@ IsFaultOfResult kind typecode a p required actual (OtherTypecode b q r) = (b ≡
 IsFaultOfResult kind typecode a p required actual (OtherExpression b q e r) = (b ≡ a) × (q ≡ p) × (e ≡ required) × (r ≡ actual)
 IsFaultOfResult kind typecode a p required actual fault = ⊥
 
--- the results are those that the hypotheses of the assertion s at a require, under the images that the results give
+-- the results are those that the hypotheses of the assertion s at a require, under the images that
+-- the results give
 abbrev pub NumberedResultsMatch : Numbered → ℕ → Stmt → List (Bor (List ℕ)) → Type 0
 NumberedResultsMatch f a s results =
     AllMatch f.statements (images_read f.statements (hypotheses (before f.statements a) s) (named_expressions f.names results)) (hypotheses (before f.statements a) s) (named_expressions f.names results)
+
+-- the first of the mandatory hypotheses of the assertion s at a that requires another result than
+-- it has
+abbrev pub IsNumberedMismatch : Numbered → ℕ → Stmt → List (Bor (List ℕ)) → ItemFault → Type 0
+IsNumberedMismatch f a s results fault = IsMismatchFault f.statements f.names a s (named_expressions f.names results) fault
 
 -- the images by number are those that the results give
 abbrev pub AreImagesOfResults : Numbered → ℕ → List (Bor (List ℕ)) → List Image → Type 0

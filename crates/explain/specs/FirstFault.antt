@@ -1,16 +1,18 @@
--- The first fault of the run over the items of a proof: at an item, or at the end, after all earlier items succeed.
+-- The first fault of the run over the items of a proof: at an item, or at the end, after all
+-- earlier items succeed.
 -- Source: Metamath, 4.2.6 and appendix B; the limit is this project's.
 -- The code stops at this fault.
 use Rattle.std.specs.Prelude.{◌≡◌, ◌≢◌, ℕ, ◌+◌, ◌<◌, ◌≤◌, true, IsTrue, List, [], ◌∷◌, ◌++◌, length, take, Some, slice_get}
-use Rattle.explain.specs.Words.{Name, Stmt, Expr, Database, before, expr_of, is_assertion, decode, hypotheses, Carries, IsHypothesis, Item, Cite, Recall, Mark, SYMBOLS_LIMIT, State, start, IsSaved, Runs}
+use Rattle.explain.specs.Words.{Name, Stmt, Expr, Database, before, expr_of, is_assertion, decode, hypotheses, Carries, IsHypothesis, Item, Cite, Recall, Mark, Numbered, HeldResults, SYMBOLS_LIMIT, State, start, IsSaved, Runs}
 use Rattle.explain.specs.declared.reason.ItemFault.{ItemFault}
 use Rattle.explain.specs.declared.reason.ItemFault.TheVariants.{UnknownLabel, Inactive, NotEarlier, TooFewResults, OtherTypecode, OtherExpression, NotDisjoint, TooManySymbols, NoMarkedResult}
 use Rattle.explain.specs.declared.reason.Reason.{Reason}
 use Rattle.explain.specs.declared.reason.Reason.TheVariants as reason
-use Rattle.explain.specs.CitationResults.{CitationGives}
+use Rattle.explain.specs.CitationResults.{CitationGives, named_without_cached}
 use Rattle.explain.specs.WrongResults.{IsResultsFault}
 
--- the last results on the stack, one for each mandatory hypothesis of the earlier assertion s at a, are wrong
+-- the last results on the stack, one for each mandatory hypothesis of the earlier assertion s at a,
+-- are wrong
 pub record HasWrongResults (S : Database) (names : List Name) (at : ℕ) (h : State) (a : ℕ) (s : Stmt) (fault : ItemFault) : Type 0 where
   pub earlier : a < at
   pub assertion : IsTrue (is_assertion s)
@@ -32,7 +34,8 @@ pub record ExceedsLimit (S : Database) (at : ℕ) (h : State) (i : ℕ) (s : Stm
 abbrev pub IsCitationFault : Database → List Name → ℕ → State → ℕ → Stmt → ItemFault → Type 0
 IsCitationFault S names at h i s (Inactive j) = (j ≡ i) × (i < at) × (IsHypothesis S at i s → ⊥) × (is_assertion s ≡ true → ⊥)
 IsCitationFault S names at h i s (NotEarlier j) = (j ≡ i) × (at ≤ i)
-IsCitationFault S names at h i s (TooFewResults b required present) = (b ≡ i) × (i < at) × IsTrue (is_assertion s) × (required ≡ length (hypotheses (before S i) s)) × (present ≡ length h.stack) × (present < required)
+IsCitationFault S names at h i s (TooFewResults b required present) = (b ≡ i) × (i < at) × IsTrue (is_assertion s)
+    × (required ≡ length (hypotheses (before S i) s)) × (present ≡ length h.stack) × (present < required)
 IsCitationFault S names at h i s (OtherTypecode b p r) = HasWrongResults S names at h i s (OtherTypecode b p r)
 IsCitationFault S names at h i s (OtherExpression b p q r) = HasWrongResults S names at h i s (OtherExpression b p q r)
 IsCitationFault S names at h i s (NotDisjoint b x y u v) = HasWrongResults S names at h i s (NotDisjoint b x y u v)
@@ -61,6 +64,11 @@ abbrev pub IsItemFault : Database → List Name → ℕ → State → Item → I
 IsItemFault S names at h (Cite label) fault = IsLabelCitationFault S names at h label fault
 IsItemFault S names at h (Recall k) fault = IsRecallFault h k fault
 IsItemFault S names at h Mark fault = IsMarkFault h fault
+
+-- the fault of an item after these results, of which the first `label_count` saved ones are cached
+-- for labels
+abbrev pub IsItemFaultAfter : Numbered → ℕ → ℕ → HeldResults → Item → ItemFault → Type 0
+IsItemFaultAfter f at label_count results item fault = IsItemFault f.statements f.names at (named_without_cached f label_count results) item fault
 
 -- the items run to the state h, within the limit
 pub record RunsWithinLimit (S : Database) (at : ℕ) (items : List Item) (h : State) : Type 0 where

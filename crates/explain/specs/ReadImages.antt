@@ -5,7 +5,8 @@ use Rattle.std.specs.Prelude.{ℕ, ◌<◌, List, [], ◌∷◌, ◌++◌, drop,
 use Rattle.explain.specs.Words.{Name, Stmt, Expr, Database, stmt_at, name_at, decode, Hypothesis, Float, Essential, Images, CodeImages}
 use Rattle.mm_read.specs.declared.stmt.Stmt.TheVariants as stmt
 
--- the result for a `$f`, without its typecode, is the image of its variable; a result for another statement gives no image
+-- the result for a `$f`, without its typecode, is the image of its variable; a result for another
+-- statement gives no image
 abbrev pub image_at : Option Stmt → Expr → Images
 image_at (Some (stmt.Float label constant variable)) e = (variable, drop 1 e) ∷ []
 image_at s e = []

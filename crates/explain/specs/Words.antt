@@ -1,4 +1,5 @@
--- Definitions of lower crates that the specifications of this crate use, re-exported from one place.
+-- Definitions of lower crates that the specifications of this crate use, re-exported from one
+-- place.
 pub use Rattle.entries.specs.declared.assertion_view.Hypothesis.{Hypothesis}
 pub use Rattle.entries.specs.declared.assertion_view.Hypothesis.TheVariants.{Essential, Float}
 pub use Rattle.frame.specs.Below.{AllBelow, AreBelow}

@@ -1,4 +1,5 @@
--- The results that a citation of an assertion takes, one for each of its mandatory hypotheses: correct, or wrong.
+-- The results that a citation of an assertion takes, one for each of its mandatory hypotheses:
+-- correct, or wrong.
 -- Source: Metamath, 4.2.6.
 -- The code reads the images off the results and tests them; it does not compute the conclusion.
 use Rattle.std.specs.Prelude.{◌≡◌, ℕ, IsTrue, List}
@@ -23,7 +24,8 @@ pub record AreCorrectResults (S : Database) (at a : ℕ) (s : Stmt) (rs : List E
   pub fit : ResultsMatch S a s rs
   pub disjoint : IsTrue (are_groups_disjoint (before S at) (images_of S a s rs) (mandatory_groups (before S a) s))
 
--- the fault of the results: the first mismatch, or two variables that violate the disjoint variable condition
+-- the fault of the results: the first mismatch, or two variables that violate the disjoint variable
+-- condition
 abbrev pub IsResultsFault : Database → List Name → ℕ → ℕ → Stmt → List Expr → ItemFault → Type 0
 IsResultsFault S names at a s rs (OtherTypecode b p actual) = IsMismatchFault S names a s rs (OtherTypecode b p actual)
 IsResultsFault S names at a s rs (OtherExpression b p required actual) = IsMismatchFault S names a s rs (OtherExpression b p required actual)

@@ -6,7 +6,7 @@ ghost use Rattle.frame.specs.FrameOf.{HasAssertion, hypotheses};
 ghost use Rattle.frame.specs.AssertionView.{IsViewOf};
 ghost use Rattle.frame.specs.AtPosition.{HasLegalProperties};
 ghost use Rattle.explain.specs.Stored.CodeSlices.{AreSymbols, AreImages, HasHypothesisCount, codes, named_expressions};
-ghost use Rattle.explain.specs.CitationFaults.{IsFaultOfResult, IsMismatchFault, NumberedResultsMatch, AreImagesOfResults};
+ghost use Rattle.explain.specs.CitationFaults.{IsFaultOfResult, IsNumberedMismatch, NumberedResultsMatch, AreImagesOfResults};
 ghost use Rattle.scope.specs.Active.{before, stmt_at};
 ghost use Rattle.explain.specs.CitationResults.{CannotCite, named_without_cached};
 ghost use Rattle.explain.specs.FirstFault.{IsCitationFault};
@@ -82,7 +82,8 @@ fn assertion_fault(
     )
 }
 
-/// Returns why an earlier assertion cannot be cited, given its mandatory hypotheses and a view of it.
+/// Returns why an earlier assertion cannot be cited, given its mandatory hypotheses and a view of
+/// it.
 fn assertion_view_fault(
     alloc: Global,
     frames: &Frames,
@@ -212,7 +213,7 @@ fn first_mismatch(
     requires count { HasHypothesisCount frames.now.statements cited_at (length results.now) }
     requires read { AreImagesOfResults frames.now cited_at results.now images.now }
     ensures { (s : Statement) → stmt_at frames.now.statements cited_at ≡ Some s
-        → IfOk result (λ r. MatchOption r (NumberedResultsMatch frames.now cited_at s results.now) (IsMismatchFault frames.now.statements frames.now.names cited_at s (named_expressions frames.now.names results.now))) }
+        → IfOk result (λ r. MatchOption r (NumberedResultsMatch frames.now cited_at s results.now) (IsNumberedMismatch frames.now cited_at s results.now)) }
 {
     for k in 0..results.len() {
         let hypothesis = mandatory[k] as usize;

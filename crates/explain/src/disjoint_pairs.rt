@@ -18,7 +18,8 @@ pub struct VariablePair {
     pub second: u32,
 }
 
-/// A cache of pairs of variables whose images are disjoint, so that a pair that is in many groups is tested once.
+/// A cache of pairs of variables whose images are disjoint, so that a pair that is in many groups
+/// is tested once.
 #[derive(Drop)]
 pub struct DisjointPairs {
     /// The index of a pair by its key. If an allocation failed in `add`, another pair or none may

@@ -20,7 +20,8 @@ pub struct Image<'a> {
     pub symbols: &'a [u32],
 }
 
-/// The images of variables, with an index of the first one for each variable. Contracts see the list of the images.
+/// The images of variables, with an index of the first one for each variable. Contracts see the
+/// list of the images.
 #[derive(Drop)]
 pub struct Images<'a> {
     /// The images.
@@ -122,7 +123,8 @@ fn without_first(expr: &[u32]) -> &[u32]
     &expr[1..]
 }
 
-/// Returns the image of a symbol, or `alone`, the list of the symbol alone, if it has none. Cost: log n for n images.
+/// Returns the image of a symbol, or `alone`, the list of the symbol alone, if it has none. Cost:
+/// log n for n images.
 pub fn image_or<'a>(images: &'a Images<'_>, symbol: u32, alone: &'a [u32]) -> &'a [u32]
     requires { alone.now ≡ symbol ∷ [] }
     ensures { result.now ≡ code_image (code_images images.entry.now) symbol }

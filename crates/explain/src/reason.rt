@@ -45,8 +45,9 @@ pub enum ItemFault {
         required: Vec<u32>,
         result: Vec<u32>,
     },
-    /// The variables `first` and `second` of the assertion must be disjoint, but `in_first_image` occurs in the image of `first`
-    /// and `in_second_image` in that of `second`, and these two are the same variable or no active `$d` has both.
+    /// The variables `first` and `second` of the assertion must be disjoint, but `in_first_image`
+    /// occurs in the image of `first` and `in_second_image` in that of `second`, and these two are
+    /// the same variable or no active `$d` has both.
     NotDisjoint {
         assertion: usize,
         first: u32,

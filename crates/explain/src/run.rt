@@ -3,8 +3,7 @@ ghost use Rattle.std.specs.Prelude.{◌≡◌, ◌-◌, ◌<◌, ◌≤◌, leng
 ghost use Rattle.mm_read.specs.declared.stmt.Stmt.{Stmt as Statement};
 ghost use Rattle.scope.specs.Active.{stmt_at};
 ghost use Rattle.proof_code.specs.declared.item.Item.{Item};
-ghost use Rattle.explain.specs.CitationResults.{named_without_cached};
-ghost use Rattle.explain.specs.FirstFault.{IsItemFault, IsEndReason, IsFirstFault};
+ghost use Rattle.explain.specs.FirstFault.{IsItemFaultAfter, IsEndReason, IsFirstFault};
 ghost use Rattle.explain.specs.declared.reason.ItemFault.TheVariants.{TooManySymbols, NoMarkedResult};
 ghost use Rattle.verify.specs.Right.{IsProvable, IsRight};
 ghost use Rattle.verify.specs.Stops.{IsNotOnly, IsStopped};
@@ -51,8 +50,9 @@ pub fn first_fault(
 }
 
 /// Returns the fault of the item at which the run stops. The number of an item is 0 for a mark,
-/// from 1 to the count of the labels for a citation, and greater for a recall. `label_count` is that
-/// count; the verifier saves one result for each label, as a cache, before those that are marked.
+/// from 1 to the count of the labels for a citation, and greater for a recall. `label_count` is
+/// that count; the verifier saves one result for each label, as a cache, before those that are
+/// marked.
 fn item_fault(
     alloc: Global,
     frames: &Frames,
@@ -65,7 +65,7 @@ fn item_fault(
     requires position { (1 ≤ at) × (at ≤ length frames.now.statements) }
     requires item { item < length items.now }
     requires stopped { IsStopped frames.now.statements at frames.now.names items.now item label_count results.now.results }
-    ensures { (failing : Item) → slice_get items.now item ≡ Some failing → IfOk result (IsItemFault frames.now.statements frames.now.names at (named_without_cached frames.now label_count results.now) failing) }
+    ensures { (failing : Item) → slice_get items.now item ≡ Some failing → IfOk result (IsItemFaultAfter frames.now at label_count results.now failing) }
 {
     let parts = items.parts();
     let number = parts.numbers[item] as usize;
@@ -82,8 +82,8 @@ fn item_fault(
     }
 }
 
-/// Returns the fault of a recall that fails. The first `label_count` saved results are those that the
-/// verifier caches for labels; the index counts the marked results, which follow them.
+/// Returns the fault of a recall that fails. The first `label_count` saved results are those that
+/// the verifier caches for labels; the index counts the marked results, which follow them.
 fn recall_fault(results: &Results, label_count: usize, index: usize) -> ItemFault
     ensures marked { index < length results.now.results.saved - label_count → result ≡ TooManySymbols }
     ensures unmarked { length results.now.results.saved - label_count ≤ index → result ≡ NoMarkedResult }

@@ -23,7 +23,8 @@ pub struct VariableList {
     list: Vec<u32>,
     /// The same variables as a set.
     seen: BTreeSet<u32>,
-    /// For each number modulo `RECENT_SIZE`, the index in the list of the variable that was added last.
+    /// For each number modulo `RECENT_SIZE`, the index in the list of the variable that was added
+    /// last.
     recent: [usize; RECENT_SIZE],
 }
 
@@ -60,7 +61,8 @@ fn is_at(list: &[u32], index: usize, code: u32) -> bool
 
 /// Returns the distinct variables of an expression, in the order of their first occurrences.
 ///
-/// Errors: an allocation fails. Cost: linear in the symbols, times log n for n variables if they are many.
+/// Errors: an allocation fails. Cost: linear in the symbols, times log n for n variables if they
+/// are many.
 fn variables_of(alloc: Global, pairs: &Pairs<'_>, symbols: &[u32]) -> Result<Vec<u32>, AllocError>
     requires { AreBelow (length pairs.now.names) symbols.now }
     ensures { IfOk result (λ list. HasVariablesOf pairs.now.statements pairs.now.names symbols.now list.items) }
@@ -95,7 +97,8 @@ pub fn variable_lists(
     Ok(lists)
 }
 
-/// Returns the list of the variables in the image of a symbol, or `alone`, the list of the symbol alone, if it has no image.
+/// Returns the list of the variables in the image of a symbol, or `alone`, the list of the symbol
+/// alone, if it has no image.
 pub fn list_or<'a>(
     images: &Images<'_>,
     lists: &'a [Vec<u32>],

@@ -1,16 +1,12 @@
 //! Finds two variables whose images violate the disjoint variable condition. A group is the list of
 //! the mandatory variables of one active `$d` of the cited assertion.
-ghost use Rattle.std.specs.Prelude.{◌≡◌, ◌<◌, ◌-◌, length, map, slice_get, true, IfOk, IsTrue, MatchOption};
-ghost use Rattle.std.specs.List.{list_all};
-ghost use Rattle.names.specs.Codes.{AreDistinct, name_at, decode};
+ghost use Rattle.std.specs.Prelude.{◌≡◌, ◌<◌, ◌-◌, length, slice_get, true, IfOk, IsTrue, MatchOption};
+ghost use Rattle.names.specs.Codes.{AreDistinct};
 ghost use Rattle.frame.specs.Below.{AreBelow, AllBelow};
-ghost use Rattle.frame.specs.Substitution.{image};
-ghost use Rattle.frame.specs.Disjoint.{are_disjoint, is_group_disjoint, are_groups_disjoint};
 ghost use Rattle.explain.specs.Stored.CodeSlices.{AreImages, code_images};
-ghost use Rattle.explain.specs.ReadImages.{named_images, AreVariablesBelow};
-ghost use Rattle.explain.specs.DisjointViolations.{IsViolation, IsViolationIn, IsViolationWith, is_permitted_pair, is_other_disjoint, IsUnpairedIn, AreUnpairedIn};
+ghost use Rattle.explain.specs.ReadImages.{AreVariablesBelow};
 ghost use Rattle.explain.specs.VariableLists.{AreListsOf};
-ghost use Rattle.explain.specs.Stored.DisjointPairs.{AreDisjointPairs, IsDisjointPair};
+ghost use Rattle.explain.specs.Stored.NumberedViolations.{AreKnownDisjoint, AreUnpairedInCodes, AreUnpairedInImages, IsDisjointPairOf, IsUnpairedInCodes, IsViolationOf, IsViolationOfGroup, IsViolationOfVariable, are_disjoint_codes, are_disjoint_groups, is_disjoint_from_others, is_disjoint_group, is_permitted_with_all};
 
 use crate::disjoint_pairs::DisjointPairs;
 use crate::images::Images;
@@ -31,8 +27,9 @@ pub struct DisjointViolation {
 
 /// Returns the first violation by the images of two variables that are in one of the groups.
 ///
-/// Errors: an allocation fails. Cost: one pass over the images; for each two variables of a group a look-up, and the cost of
-/// `unpaired_variables` unless the pair is among the at most 65,536 recorded as disjoint.
+/// Errors: an allocation fails. Cost: one pass over the images; for each two variables of a group a
+/// look-up, and the cost of `unpaired_variables` unless the pair is among the at most 65,536
+/// recorded as disjoint.
 pub fn find_violation(
     alloc: Global,
     pairs: &Pairs<'_>,
@@ -43,9 +40,8 @@ pub fn find_violation(
     requires images { AreImages (length pairs.now.names) images.now }
     requires variables { AreVariablesBelow (length pairs.now.names) (code_images images.now) }
     requires distinct { AreDistinct pairs.now.names }
-    ensures { IfOk result (λ found. MatchOption found
-        (are_groups_disjoint pairs.now.statements (named_images pairs.now.names (code_images images.now)) (map (decode pairs.now.names) groups.now) ≡ true)
-        (IsViolation pairs.now.statements pairs.now.names (named_images pairs.now.names (code_images images.now)) (map (decode pairs.now.names) groups.now))) }
+    ensures { IfOk result (λ found. MatchOption found (are_disjoint_groups pairs.now images.now groups.now ≡ true)
+        (IsViolationOf pairs.now images.now groups.now)) }
 {
     if groups.len() == 0 {
         return Ok(None);
@@ -67,10 +63,8 @@ fn violation_of(
     requires lists { AreListsOf pairs.now.statements pairs.now.names images.now lists.now }
     requires variables { AreVariablesBelow (length pairs.now.names) (code_images images.now) }
     requires distinct { AreDistinct pairs.now.names }
-    requires known_disjoint { AreDisjointPairs pairs.now.statements pairs.now.names (named_images pairs.now.names (code_images images.now)) known_disjoint.old.pairs.items }
-    ensures { MatchOption result
-        (are_groups_disjoint pairs.now.statements (named_images pairs.now.names (code_images images.now)) (map (decode pairs.now.names) groups.now) ≡ true)
-        (IsViolation pairs.now.statements pairs.now.names (named_images pairs.now.names (code_images images.now)) (map (decode pairs.now.names) groups.now)) }
+    requires known_disjoint { AreKnownDisjoint pairs.now images.now known_disjoint.old.pairs.items }
+    ensures { MatchOption result (are_disjoint_groups pairs.now images.now groups.now ≡ true) (IsViolationOf pairs.now images.now groups.now) }
 {
     for k in 0..groups.len() {
         if !is_repeated(groups, k) {
@@ -110,11 +104,9 @@ fn violation_in(
     requires lists { AreListsOf pairs.now.statements pairs.now.names images.now lists.now }
     requires variables { AreVariablesBelow (length pairs.now.names) (code_images images.now) }
     requires distinct { AreDistinct pairs.now.names }
-    requires known_disjoint { AreDisjointPairs pairs.now.statements pairs.now.names (named_images pairs.now.names (code_images images.now)) known_disjoint.old.pairs.items }
-    ensures violation { MatchOption result
-        (is_group_disjoint pairs.now.statements (named_images pairs.now.names (code_images images.now)) (decode pairs.now.names group.now) ≡ true)
-        (IsViolationIn pairs.now.statements pairs.now.names (named_images pairs.now.names (code_images images.now)) (decode pairs.now.names group.now)) }
-    ensures known_disjoint { AreDisjointPairs pairs.now.statements pairs.now.names (named_images pairs.now.names (code_images images.now)) known_disjoint.new.pairs.items }
+    requires known_disjoint { AreKnownDisjoint pairs.now images.now known_disjoint.old.pairs.items }
+    ensures violation { MatchOption result (is_disjoint_group pairs.now images.now group.now ≡ true) (IsViolationOfGroup pairs.now images.now group.now) }
+    ensures known_disjoint { AreKnownDisjoint pairs.now images.now known_disjoint.new.pairs.items }
 {
     for first in group {
         if let Some(violation) = violation_with(
@@ -145,11 +137,10 @@ fn violation_with(
     requires lists { AreListsOf pairs.now.statements pairs.now.names images.now lists.now }
     requires variables { AreVariablesBelow (length pairs.now.names) (code_images images.now) }
     requires distinct { AreDistinct pairs.now.names }
-    requires known_disjoint { AreDisjointPairs pairs.now.statements pairs.now.names (named_images pairs.now.names (code_images images.now)) known_disjoint.old.pairs.items }
-    ensures violation { MatchOption result
-        (list_all (is_other_disjoint pairs.now.statements (named_images pairs.now.names (code_images images.now)) (name_at pairs.now.names first)) (decode pairs.now.names group.now) ≡ true)
-        (IsViolationWith pairs.now.statements pairs.now.names (named_images pairs.now.names (code_images images.now)) (name_at pairs.now.names first) (decode pairs.now.names group.now)) }
-    ensures known_disjoint { AreDisjointPairs pairs.now.statements pairs.now.names (named_images pairs.now.names (code_images images.now)) known_disjoint.new.pairs.items }
+    requires known_disjoint { AreKnownDisjoint pairs.now images.now known_disjoint.old.pairs.items }
+    ensures violation { MatchOption result (is_disjoint_from_others pairs.now images.now first group.now ≡ true)
+        (IsViolationOfVariable pairs.now images.now first group.now) }
+    ensures known_disjoint { AreKnownDisjoint pairs.now images.now known_disjoint.new.pairs.items }
 {
     let alone = [first];
     let left = list_or(images, lists, first, &alone);
@@ -197,12 +188,9 @@ fn unpaired_in_images(
     requires lists { AreListsOf pairs.now.statements pairs.now.names images.now lists.now }
     requires variables { AreVariablesBelow (length pairs.now.names) (code_images images.now) }
     requires distinct { AreDistinct pairs.now.names }
-    requires known_disjoint { AreDisjointPairs pairs.now.statements pairs.now.names (named_images pairs.now.names (code_images images.now)) known_disjoint.old.pairs.items }
-    ensures unpaired { MatchOption result
-        (IsDisjointPair pairs.now.statements pairs.now.names (named_images pairs.now.names (code_images images.now)) first second)
-        (λ r. AreUnpairedIn pairs.now.statements (name_at pairs.now.names r.0) (name_at pairs.now.names r.1)
-        (image (named_images pairs.now.names (code_images images.now)) (name_at pairs.now.names first)) (image (named_images pairs.now.names (code_images images.now)) (name_at pairs.now.names second))) }
-    ensures known_disjoint { AreDisjointPairs pairs.now.statements pairs.now.names (named_images pairs.now.names (code_images images.now)) known_disjoint.new.pairs.items }
+    requires known_disjoint { AreKnownDisjoint pairs.now images.now known_disjoint.old.pairs.items }
+    ensures unpaired { MatchOption result (IsDisjointPairOf pairs.now images.now first second) (AreUnpairedInImages pairs.now images.now first second) }
+    ensures known_disjoint { AreKnownDisjoint pairs.now images.now known_disjoint.new.pairs.items }
 {
     if known_disjoint.has(first, second) {
         return None;
@@ -220,15 +208,14 @@ fn unpaired_in_images(
     }
 }
 
-/// Returns a variable of each expression such that the two are the same or no active `$d` has both, if there are such.
+/// Returns a variable of each expression such that the two are the same or no active `$d` has both,
+/// if there are such.
 ///
 /// Cost: the product of their lengths, times the cost of `Pairs::has`.
 fn unpaired_variables(pairs: &Pairs<'_>, left: &[u32], right: &[u32]) -> Option<(u32, u32)>
     requires left { AreBelow (length pairs.now.names) left.now }
     requires right { AreBelow (length pairs.now.names) right.now }
-    ensures { MatchOption result
-        (are_disjoint pairs.now.statements (decode pairs.now.names left.now) (decode pairs.now.names right.now) ≡ true)
-        (λ r. AreUnpairedIn pairs.now.statements (name_at pairs.now.names r.0) (name_at pairs.now.names r.1) (decode pairs.now.names left.now) (decode pairs.now.names right.now)) }
+    ensures { MatchOption result (are_disjoint_codes pairs.now left.now right.now ≡ true) (AreUnpairedInCodes pairs.now left.now right.now) }
 {
     for one in left {
         if let Some(other) = unpaired_with(pairs, *one, right) {
@@ -238,14 +225,12 @@ fn unpaired_variables(pairs: &Pairs<'_>, left: &[u32], right: &[u32]) -> Option<
     None
 }
 
-/// Returns a variable of the expression that is `one`, or that no active `$d` has together with `one`; `None` if `one` is not
-/// a variable.
+/// Returns a variable of the expression that is `one`, or that no active `$d` has together with
+/// `one`; `None` if `one` is not a variable.
 fn unpaired_with(pairs: &Pairs<'_>, one: u32, right: &[u32]) -> Option<u32>
     requires one { one < length pairs.now.names }
     requires right { AreBelow (length pairs.now.names) right.now }
-    ensures { MatchOption result
-        (list_all (is_permitted_pair pairs.now.statements (name_at pairs.now.names one)) (decode pairs.now.names right.now) ≡ true)
-        (λ v. IsUnpairedIn pairs.now.statements (name_at pairs.now.names one) (name_at pairs.now.names v) (decode pairs.now.names right.now)) }
+    ensures { MatchOption result (is_permitted_with_all pairs.now one right.now ≡ true) (IsUnpairedInCodes pairs.now one right.now) }
 {
     if !pairs.variable(one) {
         return None;

@@ -12,7 +12,8 @@ pub enum WhyUnproved {
     Run { items: Items, reason: Reason },
 }
 
-/// The rule of proof code that tokens break; tokens are indexed from 0. Source: Metamath, 4.3 and appendix B.
+/// The rule of proof code that tokens break; tokens are indexed from 0. Source: Metamath, 4.3 and
+/// appendix B.
 #[derive(Clone, Copy, Debug, Drop)]
 pub enum CodeBreak {
     /// The first token with the byte `?`.
@@ -47,6 +48,7 @@ pub enum LetterFault {
     NotEnded,
     /// A mark comes before any number.
     EarlyMark,
-    /// The number of the letter group that begins here is greater than the count of labels and marks so far.
+    /// The number of the letter group that begins here is greater than the count of labels and
+    /// marks so far.
     TooGreat,
 }

@@ -151,7 +151,8 @@ fn explain_violation(
 /// Writes that a `$c` is inside a block, or that a `$}` closes none.
 fn explain_whole_statement(lines: &mut Lines<'_>, context: &RuleContext<'_>) {
     push_token_place_and_colon(lines, context, context.statement, 1);
-    // G1: a `$c` is in the outermost block. The other rule that a whole statement breaks is G10: a `$}` closes a block.
+    // G1: a `$c` is in the outermost block. The other rule that a whole statement breaks is G10: a
+    // `$}` closes a block.
     if context.rule == Rule::G1 {
         return lines.push(
             b"this $c stands inside a block; constants are declared outside all blocks\n",
@@ -170,8 +171,9 @@ fn push_symbol(lines: &mut Lines<'_>, context: &RuleContext<'_>, stmt: &Stmt, sy
 /// Writes which symbol violates the rule, and why.
 fn explain_symbol(lines: &mut Lines<'_>, context: &RuleContext<'_>, stmt: &Stmt, symbol: usize) {
     push_symbol(lines, context, stmt, symbol);
-    // G5: each symbol of an expression is a constant or an active variable. G6: the first is a constant. G9: each variable has
-    // an active `$f`. Otherwise the symbol must be an active variable: the second of a `$f` (G7), or one of a `$d` (G8).
+    // G5: each symbol of an expression is a constant or an active variable. G6: the first is a
+    // constant. G9: each variable has an active `$f`. Otherwise the symbol must be an active
+    // variable: the second of a `$f` (G7), or one of a `$d` (G8).
     match context.rule {
         Rule::G5 => lines.push(b" is neither a constant nor an active variable\n"),
         Rule::G6 => lines.push(b" is no constant, and an expression begins with a constant\n"),

@@ -1,4 +1,5 @@
-//! Explains why the tokens of a proof cannot be read as citations, recalls and marks: which rule of proof code they break.
+//! Explains why the tokens of a proof cannot be read as citations, recalls and marks: which rule of
+//! proof code they break.
 
 use crate::item_spots::{Spot, letter_spot};
 use crate::statement_symbols::token_at;

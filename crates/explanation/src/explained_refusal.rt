@@ -21,7 +21,8 @@ pub enum DatabaseFault {
     Text,
     /// Its tokens do not parse as statements.
     Shape,
-    /// A statement, counted from 1, breaks a rule. The number is one above the last if a block is open at the end.
+    /// A statement, counted from 1, breaks a rule. The number is one above the last if a block is
+    /// open at the end.
     Rule { statement: usize, rule: Rule },
     /// The proof of a `$p` is wrong.
     Proof { statement: usize },
@@ -29,8 +30,9 @@ pub enum DatabaseFault {
     Unfinished { statement: usize },
 }
 
-/// Returns the lines that explain why the text is refused, at most 65,536 bytes. They are unspecified if
-/// the text does not have this fault. The name of its file, if given, is written before each place.
+/// Returns the lines that explain why the text is refused, at most 65,536 bytes. They are
+/// unspecified if the text does not have this fault. The name of its file, if given, is written
+/// before each place.
 ///
 /// Errors: an allocation fails, or those of `explain::explain`. Cost: a few passes over the text;
 /// for `Rule` also that of `rule_violation::violation_of`, and for `Proof` and `Unfinished` those
@@ -48,9 +50,10 @@ pub fn explain_refusal(
     lines.into_bytes()
 }
 
-/// Returns the lines that explain why a text is refused after the statements of a library, at most 65,536 bytes. The first
-/// `library_len` bytes of `text` are the export of the library; lines and columns are counted in the rest, which is the
-/// refused text. The statement number in `fault` counts from the first statement of the library.
+/// Returns the lines that explain why a text is refused after the statements of a library, at most
+/// 65,536 bytes. The first `library_len` bytes of `text` are the export of the library; lines and
+/// columns are counted in the rest, which is the refused text. The statement number in `fault`
+/// counts from the first statement of the library.
 ///
 /// Errors and cost: those of `explain_refusal`.
 pub fn explain_after(
@@ -66,9 +69,9 @@ pub fn explain_after(
     lines.into_bytes()
 }
 
-/// Returns the lines that explain why the proof of the `$p` at a position is wrong or unfinished, at most
-/// 65,536 bytes; none if it is correct, or if there is no `$p` at the position. `database` has the statements
-/// of the text whose tokens are given.
+/// Returns the lines that explain why the proof of the `$p` at a position is wrong or unfinished,
+/// at most 65,536 bytes; none if it is correct, or if there is no `$p` at the position. `database`
+/// has the statements of the text whose tokens are given.
 ///
 /// Errors: those of `explain::explain`. Cost: that of `explain::explain`, and a pass over the text.
 pub fn explain_unproved(

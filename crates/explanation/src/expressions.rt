@@ -9,8 +9,8 @@ const MAX_SYMBOLS: usize = 400;
 /// The largest number of bytes that are written of an expression, with a space before each symbol.
 const MAX_EXPRESSION_BYTES: usize = 4_096;
 
-/// Writes the symbols of an expression, with a space before each. Truncates a long one before the first symbol that would
-/// exceed either limit, and writes how many symbols it has.
+/// Writes the symbols of an expression, with a space before each. Truncates a long one before the
+/// first symbol that would exceed either limit, and writes how many symbols it has.
 ///
 /// Cost: the bytes that are written.
 pub(crate) fn push_expression(lines: &mut Lines<'_>, frames: &Frames, expr: &[u32]) {

@@ -1,9 +1,10 @@
 //! Finds an item or a letter among the tokens of a proof.
 //!
-//! An item is a citation, a recall of a marked result, or a mark `Z`. The number of a citation is that of its label; recalls are
-//! numbered after the labels; a mark has the number 0. In a normal proof each token is an item, a citation. In a compressed
-//! proof the items are in the letters after `)`: a citation or recall is a letter group, letters U to Y and then one of A to T,
-//! and spaces do not count.
+//! An item is a citation, a recall of a marked result, or a mark `Z`. The number of a citation is
+//! that of its label; recalls are numbered after the labels; a mark has the number 0. In a normal
+//! proof each token is an item, a citation. In a compressed proof the items are in the letters
+//! after `)`: a citation or recall is a letter group, letters U to Y and then one of A to T, and
+//! spaces do not count.
 
 use mm_lex::Words;
 use proof_code::is_compressed;
@@ -15,7 +16,8 @@ pub(crate) struct Spot {
     pub(crate) byte: usize,
 }
 
-/// Returns where the item at an index begins: at its token, its letter `Z`, or the first letter of its letter group.
+/// Returns where the item at an index begins: at its token, its letter `Z`, or the first letter of
+/// its letter group.
 pub(crate) fn spot_of(proof: &Words, item: usize) -> Spot {
     if is_compressed(proof) {
         group_spot(proof, item)
@@ -27,7 +29,8 @@ pub(crate) fn spot_of(proof: &Words, item: usize) -> Spot {
     }
 }
 
-/// Returns where the letter group or mark at an index begins among the letters, or the end of the tokens if there are fewer.
+/// Returns where the letter group or mark at an index begins among the letters, or the end of the
+/// tokens if there are fewer.
 fn group_spot(proof: &Words, item: usize) -> Spot {
     let mut in_letters = false;
     let mut rest = proof.iter();
@@ -54,7 +57,8 @@ fn group_spot(proof: &Words, item: usize) -> Spot {
     Spot { token, byte: 0 }
 }
 
-/// Returns where the letter at an index among those of all tokens after `)` is, or the end of the tokens if there are fewer.
+/// Returns where the letter at an index among those of all tokens after `)` is, or the end of the
+/// tokens if there are fewer.
 pub(crate) fn letter_spot(proof: &Words, letter: usize) -> Spot {
     let mut in_letters = false;
     let mut rest = proof.iter();

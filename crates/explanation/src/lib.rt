@@ -1,14 +1,14 @@
 //! Explains in words why a database is refused, with the place in the text.
 //!
-//! `explain_refusal` returns the lines of an explanation, at most 65,536 bytes; it is called only after
-//! a refusal and parses the text again. `explain_after` does the same for a text that follows the
-//! statements of a library. `explain_unproved` explains one `$p` of statements that the caller has
-//! parsed. The explanation relies on the clauses of `places`, `rule_violation` and `explain`; its
-//! messages have no contract.
+//! `explain_refusal` returns the lines of an explanation, at most 65,536 bytes; it is called only
+//! after a refusal and parses the text again. `explain_after` does the same for a text that follows
+//! the statements of a library. `explain_unproved` explains one `$p` of statements that the caller
+//! has parsed. The explanation relies on the clauses of `places`, `rule_violation` and `explain`;
+//! its messages have no contract.
 //!
-//! Reading order: `explained_refusal`, `written_lines`, `text_fault`, `shape_fault`, `broken_rule` with
-//! `statement_symbols`; `proof` with `text_tokens`, `theorem`, `item_spots`, `step_fault`, `expressions`
-//! and `code_break`.
+//! Reading order: `explained_refusal`, `written_lines`, `text_fault`, `shape_fault`, `broken_rule`
+//! with `statement_symbols`; `proof` with `text_tokens`, `theorem`, `item_spots`, `step_fault`,
+//! `expressions` and `code_break`.
 #![tactic(auto)]
 
 mod broken_rule;

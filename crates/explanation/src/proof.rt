@@ -32,7 +32,8 @@ pub(crate) fn explain_proof(alloc: Global, lines: &mut Lines<'_>, text: &[u8], s
     }
 }
 
-/// Writes why the proof of the `$p` at a position is wrong or unfinished, given the statements parsed from the text.
+/// Writes why the proof of the `$p` at a position is wrong or unfinished, given the statements
+/// parsed from the text.
 fn explain_unproved_in(
     alloc: Global,
     lines: &mut Lines<'_>,
@@ -47,7 +48,8 @@ fn explain_unproved_in(
     }
 }
 
-/// Writes why the proof of the `$p` at a position is wrong or unfinished, given the statements with their frames.
+/// Writes why the proof of the `$p` at a position is wrong or unfinished, given the statements with
+/// their frames.
 fn explain_in_text(
     alloc: Global,
     lines: &mut Lines<'_>,
@@ -60,8 +62,8 @@ fn explain_in_text(
     }
 }
 
-/// Writes why the proof of the `$p` at a position is wrong or unfinished, given the tokens of the text and its statements with
-/// their frames.
+/// Writes why the proof of the `$p` at a position is wrong or unfinished, given the tokens of the
+/// text and its statements with their frames.
 pub(crate) fn explain_in_database(
     alloc: Global,
     lines: &mut Lines<'_>,

@@ -37,7 +37,8 @@ fn explain_token_at(lines: &mut Lines<'_>, text: &[u8], spans: &[Span], index: u
     explain_token(lines, text, spans, index);
 }
 
-/// Writes the explanation for the token at an index, or for the end of the text if the index is the number of tokens.
+/// Writes the explanation for the token at an index, or for the end of the text if the index is the
+/// number of tokens.
 fn explain_token(lines: &mut Lines<'_>, text: &[u8], spans: &[Span], index: usize)
     requires words { All (IsWordAt text.now) spans.now }
     requires within { index ≤ length spans.now }
@@ -68,8 +69,8 @@ fn explain_token(lines: &mut Lines<'_>, text: &[u8], spans: &[Span], index: usiz
     lines.push(b"\n");
 }
 
-/// Writes that a token is not allowed where it is, and which tokens are; for `$[`, that files are not included; and for a
-/// word in place of a label, which characters a label has.
+/// Writes that a token is not allowed where it is, and which tokens are; for `$[`, that files are
+/// not included; and for a word in place of a label, which characters a label has.
 fn push_misplaced(lines: &mut Lines<'_>, expected: &[u8], token: &[u8], begins_statement: bool) {
     if token == b"$[".as_slice() {
         lines.push(
@@ -100,7 +101,8 @@ fn allowed_tokens(text: &[u8], before: &[Span]) -> &'static [u8] {
     }
 }
 
-/// Returns the part of the message that names a symbol, and also `$.` if `len` tokens are enough for a statement.
+/// Returns the part of the message that names a symbol, and also `$.` if `len` tokens are enough
+/// for a statement.
 fn symbols_or_end(len: usize, min_len: usize) -> &'static [u8] {
     if len < min_len {
         b"a symbol"
@@ -109,7 +111,8 @@ fn symbols_or_end(len: usize, min_len: usize) -> &'static [u8] {
     }
 }
 
-/// Returns the part of the message that names the tokens allowed after these, the first of which is a label.
+/// Returns the part of the message that names the tokens allowed after these, the first of which is
+/// a label.
 fn allowed_after_label(text: &[u8], before: &[Span]) -> &'static [u8] {
     let Some(keyword) = before.get(1) else {
         return b"$f, $e, $a or $p";

@@ -30,7 +30,8 @@ impl<'a> Model for TextTokens<'a> {
 impl<'a> TextTokens<'a> {
     /// Returns a text with the spans of its tokens.
     ///
-    /// Errors: the bytes or comments of the text are faulty, or an allocation fails. Cost: linear in the text.
+    /// Errors: the bytes or comments of the text are faulty, or an allocation fails. Cost: linear
+    /// in the text.
     pub fn new(alloc: Global, text: &'a [u8]) -> Result<TextTokens<'a>, LexFault>
         ensures { IfOk result (λ tokens. tokens ≡ text.now) }
     {
@@ -45,8 +46,8 @@ impl<'a> TextTokens<'a> {
         self.text
     }
 
-    /// Returns the offset at which a token of a statement begins, or the end of the text if there is no
-    /// such token. The statement and the token are counted from 1.
+    /// Returns the offset at which a token of a statement begins, or the end of the text if there
+    /// is no such token. The statement and the token are counted from 1.
     pub(crate) fn start_of(&self, statement: usize, token: usize) -> usize {
         if statement == 0 || token == 0 {
             return self.text.len();

@@ -46,7 +46,8 @@ impl<'a> Theorem<'a> {
         })
     }
 
-    /// Writes `LINE:COLUMN: the proof of LABEL` for a byte of a token of the proof, or for the `$.` after the last token.
+    /// Writes `LINE:COLUMN: the proof of LABEL` for a byte of a token of the proof, or for the `$.`
+    /// after the last token.
     pub(crate) fn push_spot(&self, lines: &mut Lines<'_>, spot: Spot) {
         let token = self.expr.len().saturating_add(4).saturating_add(spot.token);
         let start = self.tokens.start_of(self.at, token);
@@ -69,7 +70,8 @@ impl<'a> Theorem<'a> {
         }
     }
 
-    /// Returns the typecode of the `$f` at a position, or an empty one if that statement is not a `$f`.
+    /// Returns the typecode of the `$f` at a position, or an empty one if that statement is not a
+    /// `$f`.
     pub(crate) fn typecode_at(&self, at: usize) -> &'a [u8] {
         match self.statements.get(at.saturating_sub(1)) {
             Some(Stmt::Float { constant, .. }) => constant.as_bytes(),

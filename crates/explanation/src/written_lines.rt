@@ -13,8 +13,8 @@ pub const MAX_BYTES: usize = 65_536;
 /// The last line of a truncated explanation.
 const TRUNCATED_LINE: &[u8] = b"\n  the explanation is cut here: it has more than 65536 bytes\n";
 
-/// The lines of an explanation, or none after a failure. Keeps at most `MAX_BYTES` + 1 bytes, the last of which shows that
-/// there were too many, and drops the rest.
+/// The lines of an explanation, or none after a failure. Keeps at most `MAX_BYTES` + 1 bytes, the
+/// last of which shows that there were too many, and drops the rest.
 #[derive(Drop)]
 pub(crate) struct Lines<'a> {
     bytes: Vec<u8>,
@@ -22,8 +22,8 @@ pub(crate) struct Lines<'a> {
     name: Option<&'a str>,
     /// Whether an allocation failed, or a call that the explanation needs returned an error.
     has_failed: bool,
-    /// The number of bytes at the start of the text that are the statements of a library, one on each line; only the rest is
-    /// explained.
+    /// The number of bytes at the start of the text that are the statements of a library, one on
+    /// each line; only the rest is explained.
     library_len: usize,
 }
 
@@ -38,7 +38,8 @@ impl<'a> Lines<'a> {
         }
     }
 
-    /// Returns the lines, at most 65,536 bytes. If more were pushed, the last line says that they are truncated.
+    /// Returns the lines, at most 65,536 bytes. If more were pushed, the last line says that they
+    /// are truncated.
     ///
     /// Errors: a failure was recorded, or an allocation fails.
     pub(crate) fn into_bytes(self) -> Result<Vec<u8>, AllocError>
@@ -64,7 +65,8 @@ impl<'a> Lines<'a> {
         self.has_failed = true;
     }
 
-    /// Returns the value of a result, or records a failure and returns `None` if it is an error of any kind.
+    /// Returns the value of a result, or records a failure and returns `None` if it is an error of
+    /// any kind.
     pub(crate) fn ok_or_fail<T, E: Drop>(&mut self, fallible: Result<T, E>) -> Option<T> {
         match fallible {
             Ok(value) => Some(value),
@@ -90,8 +92,9 @@ impl<'a> Lines<'a> {
         self.push(buffer.format(number).as_bytes());
     }
 
-    /// Writes `LINE:COLUMN`, counted in the part that is explained, after the name of the file and a colon if there is a name;
-    /// for an offset before that part, writes the number of the statement of the library at that offset.
+    /// Writes `LINE:COLUMN`, counted in the part that is explained, after the name of the file and
+    /// a colon if there is a name; for an offset before that part, writes the number of the
+    /// statement of the library at that offset.
     pub(crate) fn push_place(&mut self, text: &[u8], offset: usize) {
         let library_len = self.library_len;
         let within = offset.min(text.len());

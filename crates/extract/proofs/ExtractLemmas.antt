@@ -1,4 +1,5 @@
--- The result of an extraction is an extract: the part if the code finds it to be one, and the whole list otherwise.
+-- The result of an extraction is an extract: the part if the code finds it to be one, and the whole
+-- list otherwise.
 use Rattle.extract.proofs.Words.{◌≡◌, ◌||◌, ℕ, true, List, [], ◌∷◌, ◌++◌, length, Some, Result, Ok, Err, IfOk, refl, list_any, AllByRecursion, ◌∙◌, ap, subst, or_right, Name, name_eq, has_name, Stmt, Open, Close, Const, Var, Disj, Float, Ess, Axiom, Prove, Database, Reads, name_same, label_of, is_assertion, stands-within, Good, NamesAssertion, AreValidLabels, IsPartOf, HasSameAssertion, is_listed_assertion, HaveSameListedAssertions, IsExtract, part-whole}
 
 -- ---- each label

@@ -1,6 +1,7 @@
 -- Extracts of a database.
 -- Source: this project's profile; Metamath, 4.2 (what makes a database good).
--- The code chooses statements, checks the choice, and returns the whole database if the choice is not enough.
+-- The code chooses statements, checks the choice, and returns the whole database if the choice is
+-- not enough.
 use Rattle.std.specs.Prelude.{ℕ, List}
 use Rattle.std.specs.List.{AllByRecursion}
 use Rattle.mm_lex.specs.Alphabet.{Name}

@@ -1,5 +1,6 @@
 -- Labels that name assertions, each once, and the first label of a list that is wrong.
--- Source: Metamath, 4.2 (assertions are `$a` and `$p`); that a label occurs once is this project's choice.
+-- Source: Metamath, 4.2 (assertions are `$a` and `$p`); that a label occurs once is this project's
+-- choice.
 -- The code finds labels in a table.
 use Rattle.std.specs.Prelude.{◌≡◌, ◌⊎◌, ℕ, true, false, IsTrue, IsFalse, List, [], ◌∷◌, ◌++◌, Option, Some, None}
 use Rattle.mm_lex.specs.Alphabet.{Name, has_name}

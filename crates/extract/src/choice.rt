@@ -31,7 +31,8 @@ struct SymbolRecord {
     variable_of: usize,
 }
 
-/// The state of a walk from the first statement to the last. The extract includes the statements that are marked.
+/// The state of a walk from the first statement to the last. The extract includes the statements
+/// that are marked.
 #[derive(Drop)]
 struct Choice<'a> {
     alloc: Global,
@@ -54,12 +55,13 @@ struct Choice<'a> {
     blocks: Vec<Block>,
 }
 
-/// Returns for each statement whether the extract includes it: the assertions of the labels, all that their proofs cite, the
-/// hypotheses of these, the `$d` with two of their variables, the declarations of the symbols of all these, and the blocks in
-/// which an assertion is included.
+/// Returns for each statement whether the extract includes it: the assertions of the labels, all
+/// that their proofs cite, the hypotheses of these, the `$d` with two of their variables, the
+/// declarations of the symbols of all these, and the blocks in which an assertion is included.
 ///
-/// Cost: the statements, each `$e` and `$d` once; for each included assertion its own expression and proof, and the active `$d`
-/// that `DisjointLists::find_needed` visits; for each variable of an included `$e` the active `$d` that contain it.
+/// Cost: the statements, each `$e` and `$d` once; for each included assertion its own expression
+/// and proof, and the active `$d` that `DisjointLists::find_needed` visits; for each variable of an
+/// included `$e` the active `$d` that contain it.
 pub(crate) fn choose(
     alloc: Global,
     library: &Library,
@@ -246,7 +248,8 @@ impl<'a> Choice<'a> {
         Ok(())
     }
 
-    /// Includes the declarations of the symbols of an assertion and the `$f` of its variables, and records these variables.
+    /// Includes the declarations of the symbols of an assertion and the `$f` of its variables, and
+    /// records these variables.
     fn include_symbols_of(&mut self, at: usize, expr: &Words) -> Result<(), AllocError> {
         for name in expr.iter() {
             self.include_declaration(name);
@@ -282,7 +285,8 @@ impl<'a> Choice<'a> {
         Ok(())
     }
 
-    /// Includes the `$f` of a symbol of the `$e` at a position and records the symbol, if it is a variable.
+    /// Includes the `$f` of a symbol of the `$e` at a position and records the symbol, if it is a
+    /// variable.
     fn include_essential_symbol(&mut self, position: usize, name: &[u8]) -> Result<(), AllocError> {
         let Some(code) = self.symbols.find(name) else {
             return Ok(());
@@ -345,7 +349,8 @@ impl<'a> Choice<'a> {
         Ok(())
     }
 
-    /// Records a variable of the assertion at a position, once, unless an active, included `$e` contains it.
+    /// Records a variable of the assertion at a position, once, unless an active, included `$e`
+    /// contains it.
     fn record_variable(&mut self, at: usize, name: &[u8]) -> Result<(), AllocError> {
         let Some(code) = self.symbols.find(name) else {
             return Ok(());

@@ -1,12 +1,14 @@
-//! The statements that assertions rest on: those that their proofs cite, and those that the proofs of these cite.
+//! The statements that assertions rest on: those that their proofs cite, and those that the proofs
+//! of these cite.
 use frame::Frames;
 use library::Library;
 use mm_lex::Words;
 use mm_read::Stmt;
 use std::alloc::{AllocError, Global};
 
-/// Returns for each statement whether it is marked: if it has one of the labels, or the proof of a marked statement cites or
-/// lists it. A proof cites only earlier statements, so the statements are visited from the last to the first.
+/// Returns for each statement whether it is marked: if it has one of the labels, or the proof of a
+/// marked statement cites or lists it. A proof cites only earlier statements, so the statements are
+/// visited from the last to the first.
 pub(crate) fn cited_marks(
     alloc: Global,
     library: &Library,
@@ -28,8 +30,8 @@ pub(crate) fn cited_marks(
     Ok(marks)
 }
 
-/// Marks the statements that a proof cites or lists: by all tokens of a normal proof, by those in the parentheses of a
-/// compressed one.
+/// Marks the statements that a proof cites or lists: by all tokens of a normal proof, by those in
+/// the parentheses of a compressed one.
 fn mark_cited(frames: &Frames, proof: &Words, marks: &mut [bool]) {
     for token in proof.iter() {
         if token == b")".as_slice() {

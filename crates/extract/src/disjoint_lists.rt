@@ -1,6 +1,8 @@
-//! The active `$d` of a walk over the statements, and which of them contain two variables of an assertion.
+//! The active `$d` of a walk over the statements, and which of them contain two variables of an
+//! assertion.
 //!
-//! A statement is *included* if the extract has it: if its position is marked. A symbol is given by its number, `code`.
+//! A statement is *included* if the extract has it: if its position is marked. A symbol is given by
+//! its number, `code`.
 use crate::cited::is_marked;
 use std::alloc::{AllocError, Global};
 
@@ -105,7 +107,8 @@ impl DisjointLists {
         self.visited = self.visited.min(self.lists.len());
     }
 
-    /// Makes a variable covered, and appends the positions of the `$d` that contain it and another covered variable.
+    /// Makes a variable covered, and appends the positions of the `$d` that contain it and another
+    /// covered variable.
     ///
     /// Cost: the number of `$d` that contain it.
     pub(crate) fn cover(&mut self, code: usize, found: &mut Vec<usize>) -> Result<(), AllocError> {
@@ -138,11 +141,13 @@ impl DisjointLists {
         }
     }
 
-    /// Appends the positions of the `$d` that are not included and contain two variables of the assertion at a position. Its
-    /// variables are the covered ones and those in `other_variables`, which lists each once.
+    /// Appends the positions of the `$d` that are not included and contain two variables of the
+    /// assertion at a position. Its variables are the covered ones and those in `other_variables`,
+    /// which lists each once.
     ///
-    /// Cost: the number of `$d` that contain a variable of `other_variables`, times a logarithm; for the variable with the most
-    /// `$d`, only those not visited since a variable last became covered.
+    /// Cost: the number of `$d` that contain a variable of `other_variables`, times a logarithm;
+    /// for the variable with the most `$d`, only those not visited since a variable last became
+    /// covered.
     pub(crate) fn find_needed(
         &mut self,
         at: usize,
@@ -163,8 +168,8 @@ impl DisjointLists {
         Ok(())
     }
 
-    /// Returns the variable of `other_variables` with the most `$d` among those that are not covered, or `usize::MAX` if all are
-    /// covered.
+    /// Returns the variable of `other_variables` with the most `$d` among those that are not
+    /// covered, or `usize::MAX` if all are covered.
     fn most_listed(&self, other_variables: &[usize]) -> usize {
         let mut most = usize::MAX;
         for code in other_variables {
@@ -175,8 +180,8 @@ impl DisjointLists {
         most
     }
 
-    /// Counts a variable of the assertion at a position in the `$d` that contain it. In each `$d` that is visited, the variable
-    /// `most` is counted too, if the `$d` contains it.
+    /// Counts a variable of the assertion at a position in the `$d` that contain it. In each `$d`
+    /// that is visited, the variable `most` is counted too, if the `$d` contains it.
     fn count_variable(
         &mut self,
         at: usize,
@@ -202,8 +207,9 @@ impl DisjointLists {
         Ok(())
     }
 
-    /// Counts one more variable of the assertion at a position in a `$d`, if `is_counted`, and appends the position of the `$d`
-    /// if the count is 2 or more. The first call for an assertion starts from the covered variables, plus one if `has_most`.
+    /// Counts one more variable of the assertion at a position in a `$d`, if `is_counted`, and
+    /// appends the position of the `$d` if the count is 2 or more. The first call for an assertion
+    /// starts from the covered variables, plus one if `has_most`.
     fn count_in(
         &mut self,
         at: usize,
@@ -226,7 +232,8 @@ impl DisjointLists {
         Ok(())
     }
 
-    /// Removes the included `$d` from those recorded for a symbol, from offset `from` on, and records that all were visited.
+    /// Removes the included `$d` from those recorded for a symbol, from offset `from` on, and
+    /// records that all were visited.
     fn remove_included(&mut self, code: usize, from: usize, marks: &[bool]) {
         let mut kept = from;
         for offset in from..self.list_count(code) {

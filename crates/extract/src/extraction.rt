@@ -13,12 +13,14 @@ use library::{Entry, Library, Submission};
 use mm_read::push_line;
 use std::alloc::{AllocError, Global};
 
-/// Returns the text of good statements of the library, as `export` writes them: the assertions of these labels, all that their
-/// proofs use, and few others; all statements if those chosen are not an extract.
+/// Returns the text of good statements of the library, as `export` writes them: the assertions of
+/// these labels, all that their proofs use, and few others; all statements if those chosen are not
+/// an extract.
 ///
-/// Errors: `NoLabel`, `NotAssertion` or `SameLabel` for the first wrong label, even if every allocation fails; else `Memory`.
-/// Cost: that of verifying the proofs of the extract, a pass over the rules of all statements, and a comparison of each
-/// label with each assertion and each earlier label. Source: Metamath, 4.2.
+/// Errors: `NoLabel`, `NotAssertion` or `SameLabel` for the first wrong label, even if every
+/// allocation fails; else `Memory`.
+/// Cost: that of verifying the proofs of the extract, a pass over the rules of all statements, and
+/// a comparison of each label with each assertion and each earlier label. Source: Metamath, 4.2.
 pub fn extract(alloc: Global, library: &Library, labels: &[&str]) -> Result<Vec<u8>, ExtractFault>
     ensures extract { IfOk result (λ text. IsExtract library.now.replica.statements (map (λ label. label.now) labels.now) text.items) }
     ensures wrong { (fault : Fault) → IsFirstLabelFault library.now.replica.statements [] (map (λ label. label.now) labels.now) fault → result ≡ Err fault }
@@ -39,7 +41,8 @@ fn extract_text(alloc: Global, library: &Library, labels: &[&str]) -> Result<Vec
     extract_text_with(alloc, library, labels, &mut part)
 }
 
-/// Returns that text. The chosen statements are added to `part`, an empty library, which stays empty if they are not good.
+/// Returns that text. The chosen statements are added to `part`, an empty library, which stays
+/// empty if they are not good.
 fn extract_text_with(
     alloc: Global,
     library: &Library,

@@ -11,8 +11,8 @@ use database_parts::is_among;
 use frame::{Frames, is_assertion};
 use mm_read::Stmt;
 
-/// Returns the fault of the first label that no assertion has or that occurs earlier in the list; `None` if no label is
-/// wrong. Does not allocate.
+/// Returns the fault of the first label that no assertion has or that occurs earlier in the list;
+/// `None` if no label is wrong. Does not allocate.
 pub(crate) fn first_label_fault(
     frames: &Frames,
     statements: &[Stmt],

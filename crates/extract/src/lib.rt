@@ -1,10 +1,13 @@
-//! Extracts some assertions of a library as a smaller database, with what they need and little else.
+//! Extracts some assertions of a library as a smaller database, with what they need and little
+//! else.
 //!
-//! `extract` returns a text that reads as good statements of the library, in their order, and has each named assertion with
-//! its mandatory hypotheses and disjoint variables. No clause says which statements are chosen: a second library verifies
-//! them, `database_parts` compares it with the whole library, and if anything is missing the whole library is returned.
+//! `extract` returns a text that reads as good statements of the library, in their order, and has
+//! each named assertion with its mandatory hypotheses and disjoint variables. No clause says which
+//! statements are chosen: a second library verifies them, `database_parts` compares it with the
+//! whole library, and if anything is missing the whole library is returned.
 //!
-//! Reading order: `fault`, `labels` (checks them), `cited`, `disjoint_lists` and `choice` (the statements), `extraction`.
+//! Reading order: `fault`, `labels` (checks them), `cited`, `disjoint_lists` and `choice` (the
+//! statements), `extraction`.
 #![tactic(auto)]
 
 mod choice;

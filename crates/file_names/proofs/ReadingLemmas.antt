@@ -1,4 +1,5 @@
--- A label can be read back from its file name, and a file name has only bytes that such names may have.
+-- A label can be read back from its file name, and a file name has only bytes that such names may
+-- have.
 use Rattle.std.specs.Prelude.{◌≡◌, ◌⊎◌, ℕ, ◌+◌, ◌-◌, ◌<◌, ◌^◌, ◌==◌, nat_le, Bool, true, false, not, if◌then◌else◌, List, [], ◌∷◌, ◌++◌, length, codes, decimal}
 use Rattle.std.specs.List.{list_all}
 use Rattle.std.specs.Char.{digit_value, is_ascii_uppercase, is_ascii_digit}

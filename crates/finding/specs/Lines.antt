@@ -21,7 +21,8 @@ line_if found s = if found then found_line s else []
 abbrev pub IsLineIf : Type 0 → Stmt → List ℕ → Type 0
 IsLineIf matches s line = (matches × (line ≡ found_line s)) ⊎ ((matches → ⊥) × (line ≡ []))
 
--- the lines of exactly the statements that match (`matches`), in order; `index` is that of the first statement
+-- the lines of exactly the statements that match (`matches`), in order; `index` is that of the
+-- first statement
 abbrev pub AreFoundLines : (ℕ → Stmt → Type 0) → ℕ → Database → List ℕ → Type 0
 AreFoundLines matches index [] lines = lines ≡ []
 AreFoundLines matches index (s ∷ S) lines =

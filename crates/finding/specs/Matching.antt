@@ -1,6 +1,7 @@
 -- The assertions that a search finds.
 -- Source: this project's command `find`, after `search` of the program metamath.
--- The code carries the `$e` with the pattern from statement to statement; here each assertion is judged by its frame.
+-- The code carries the `$e` with the pattern from statement to statement; here each assertion is
+-- judged by its frame.
 use Rattle.std.specs.Prelude.{ℕ, ◌+◌, ◌⊎◌, List, [], ◌∷◌, Option, Some, None, IsTrue, option_and_then, slice_get}
 use Rattle.mm_lex.specs.declared.span.Span.{Span}
 use Rattle.mm_lex.specs.Alphabet.{word}

@@ -44,8 +44,8 @@ fn push_position_if(
     Ok(())
 }
 
-/// Removes positions from the end until the last one is that of a hypothesis active at `at`. Returns
-/// whether any are left.
+/// Removes positions from the end until the last one is that of a hypothesis active at `at`.
+/// Returns whether any are left.
 ///
 /// Cost: the number of positions removed, and a constant.
 pub(crate) fn trim_to_active(frames: &Frames, at: usize, positions: &mut Vec<usize>) -> bool
@@ -61,8 +61,8 @@ pub(crate) fn trim_to_active(frames: &Frames, at: usize, positions: &mut Vec<usi
     remaining > 0
 }
 
-/// Returns the length of the list up to the last position that is that of a hypothesis active at `at`,
-/// that position included, or 0 if there is none.
+/// Returns the length of the list up to the last position that is that of a hypothesis active at
+/// `at`, that position included, or 0 if there is none.
 fn trimmed_len(frames: &Frames, at: usize, positions: &[usize]) -> usize
     requires position { (1 ≤ at) × (at ≤ length frames.now.statements) }
     ensures { IsTrimmedLength frames.now.statements at positions.now result }

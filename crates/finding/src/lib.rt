@@ -2,8 +2,9 @@
 //!
 //! `found_lines` returns a line for exactly the assertions that match, in order.
 //!
-//! Reading order: `query` (the pattern or words, and where they are searched for), `expressions` (a pattern in an
-//! expression), `hypotheses` (a pattern in a mandatory `$e`), `lines` (`found_lines`).
+//! Reading order: `query` (the pattern or words, and where they are searched for), `expressions` (a
+//! pattern in an expression), `hypotheses` (a pattern in a mandatory `$e`), `lines`
+//! (`found_lines`).
 #![tactic(auto)]
 
 mod expressions;

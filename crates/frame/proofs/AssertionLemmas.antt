@@ -5,7 +5,8 @@ use Rattle.frame.proofs.ActivePositions.{active-members}
 use Rattle.frame.proofs.LegalAfter.{stands-at}
 use Rattle.frame.proofs.FoundByNumber.{map-back}
 
--- at the position of an active statement that passes the test there is the entry of a statement that passes
+-- at the position of an active statement that passes the test there is the entry of a statement
+-- that passes
 active-entry : (names labels : List Name) (es : List Entry) (i : ℕ) (q : Stmt → Bool) (p : ℕ) → In p (map (λ r. r.0) (filter (λ r. q r.1) (active (take i (map (stmt_of names labels) es)))))
     → (e : Entry) × (1 ≤ p) × (slice_get (take i es) (p - 1) ≡ Some e) × (q (stmt_of names labels e) ≡ true)
 active-entry names labels es i q p j =
@@ -25,7 +26,8 @@ hypothesis-entry names labels e = by e.kind
     by Ess h = refl
     by kind h = cc
 
--- if only hypotheses pass the test, there is a hypothesis at the position of each active statement that passes
+-- if only hypotheses pass the test, there is a hypothesis at the position of each active statement
+-- that passes
 pub hypotheses-of : (names labels : List Name) (es : List Entry) (i : ℕ) (q : Stmt → Bool) → ((t : Stmt) → q t ≡ true → is_hypothesis_kind t ≡ true)
     → AreHypotheses es (map (λ p. p.0) (filter (λ p. q p.1) (active (take i (map (stmt_of names labels) es)))))
 hypotheses-of names labels es i q kinds = all (map (λ p. p.0) (filter (λ p. q p.1) (active (take i (map (stmt_of names labels) es))))) (λ p j. active-entry names labels es i q p j)
@@ -63,7 +65,8 @@ alike : {A : Type 0} (f g : ℕ → A) (ps : List ℕ) → ((p : ℕ) → In p p
 alike f g [] h = refl
 alike f g (p ∷ ps) h = ap (λ x. x ∷ map f ps) (h p (inl refl)) ∙ ap (λ r. g p ∷ r) (alike f g ps (λ q i. h q (inr i)))
 
--- a statement that is kept after the first i entries is kept so after any entries that begin with these
+-- a statement that is kept after the first i entries is kept so after any entries that begin with
+-- these
 pub kept-moved : (names labels : List Name) (es fs : List Entry) (i : ℕ) (s : Stmt) (d : Assertion) → take i es ≡ take i fs
     → IsKeptAs es (take i (map (stmt_of names labels) es)) s d → IsKeptAs fs (take i (map (stmt_of names labels) es)) s d
 kept-moved names labels es fs i s d same k = record {

@@ -27,7 +27,8 @@ same-split b h (p ∷ xs) ys (q ∷ us) vs x u y v e =
 -- ---- the statements in front of the last open block
 
 module _ (kind : Stmt → Bool) (no_open : kind stmt.Open ≡ false) (S : Database) (block : ℕ) (is : block ≡ last_active_of_kind is_open S) where
-  -- if p is not after the last open `${` and the other active statements are, those up to p are the ones active before the `${`
+  -- if p is not after the last open `${` and the other active statements are, those up to p are the
+  -- ones active before the `${`
   pub front-same : (p high : ℕ) (rest : List (ℕ × Stmt)) → p ≤ block → actives kind S ≡ actives kind (take p S) ++ rest → AreIn (suc block) high rest → actives kind (take p S) ≡ actives kind (take (block - 1) S)
   front-same p high rest le list above = by (split_last is_open S)
     where

@@ -1,4 +1,5 @@
--- The active statements at a position, and the step from one active statement of a kind to the one before it.
+-- The active statements at a position, and the step from one active statement of a kind to the one
+-- before it.
 use Rattle.frame.proofs.Words.{sym, ◌∙◌, ap, arith, inl, inr, length-append, le-leb, lt-ltb, ◌≡◌, ℕ, zero, suc, ◌+◌, ◌-◌, ◌<◌, ◌≤◌, Bool, true, ◌&&◌, nat_lt, List, [], ◌∷◌, ◌++◌, length, take, drop, slice_get, Some, refl, take-append_seam, take-take, take_all, drop-take, Stmt, Database, stays_open, is_active, take-get, actives, last_position, last_active_of_kind}
 use Rattle.frame.proofs.LegalAfter.{stands-at}
 use Rattle.frame.proofs.LastActiveLemmas.{actives-push, length-cut}
@@ -17,7 +18,8 @@ last-within kind S n = by (split_last kind S)
     by (inl none) = rw (none 1) (omega arith)
     by (inr p) = omega (arith, last-position kind S p.0 p.1 p.2 n p.3, ap length p.3.cut, length-append p.0 (p.1 ∷ p.2))
 
--- a statement is active at `at` exactly if the statements after it and before `at` close no block that was open there
+-- a statement is active at `at` exactly if the statements after it and before `at` close no block
+-- that was open there
 pub active-stays : (S : Database) (i at : ℕ) → 1 ≤ i → i < at → is_active S i at ≡ stays_open 0 (drop i (take (at - 1) S))
 active-stays S i at one h =
     let cut : at - 1 ≡ i + (at - 1 - i) = omega (arith, h) in
@@ -25,7 +27,8 @@ active-stays S i at one h =
     ∙ (ap (λ b. b && stays_open 0 (take (at - 1 - i) (drop i S))) (lt-ltb i at h)
     ∙ ap (stays_open 0) (sym (ap (λ m. drop i (take m S)) cut ∙ drop-take i (at - 1 - i) S)))
 
--- a statement is active at the end exactly if the statements after it close no block that was open there
+-- a statement is active at the end exactly if the statements after it close no block that was open
+-- there
 pub active-end : (S : Database) (n : ℕ) → n < length S → is_active S (suc n) (length S + 1) ≡ stays_open 0 (drop (suc n) S)
 active-end S n lt = active-stays S (suc n) (length S + 1) (omega arith) (omega (arith, lt)) ∙ ap (λ T. stays_open 0 (drop (suc n) T)) (take_all (length S + 1 - 1) S (omega arith))
 

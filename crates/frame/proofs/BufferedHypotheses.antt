@@ -1,4 +1,5 @@
--- The mandatory hypotheses of an assertion that keeps only the `$f` of its own variables: these, and those that the active `$e` bring along.
+-- The mandatory hypotheses of an assertion that keeps only the `$f` of its own variables: these,
+-- and those that the active `$e` bring along.
 use Rattle.frame.proofs.Words.{◌∙◌, ap, subst, ◌≡◌, ℕ, ◌-◌, Bool, true, false, List, take, Option, Some, None, IfSome, Stmt, Database, is_assertion, hypotheses, AreListsOf, Storage, Entry, Assertion, names_in, labels_in, statements_of, AreStored, IsFilledFrom, AreWithEssentials, kept_with}
 use Rattle.frame.proofs.EnterLemmas.{essentials-kept, not-essential}
 use Rattle.frame.proofs.AssertionLemmas.{filled-kept}
@@ -20,7 +21,8 @@ module _ (k : Storage) (a i : ℕ) (s : Stmt) (e : Entry) (stored : AreStored k)
   pub kept-by : (b : Bool) → e.assertion.whole ≡ b → e.assertion.hypotheses ≡ kept_with b T s
   kept-by b w = t.kept.hypotheses_kept ∙ ap (λ whole. kept_with whole T s) w
 
-  -- if its parts are not whole, the `$f` that it keeps and those that the active `$e` bring along are its mandatory hypotheses
+  -- if its parts are not whole, the `$f` that it keeps and those that the active `$e` bring along
+  -- are its mandatory hypotheses
   pub mandatory-own : e.assertion.whole ≡ false → (list : List ℕ) → AreWithEssentials k.entries T e.assertion.hypotheses list → list ≡ hypotheses T s
   mandatory-own w list l =
       buffered-hypotheses k.entries (names_in k) (labels_in k) (a - 1) stored.kept.legal (essentials-kept k stored) s list (subst (λ own. AreWithEssentials k.entries T own list) (kept-by false w) l)

@@ -1,4 +1,5 @@
--- Lists that have the mandatory pairs of an assertion: the groups of its frame, or a list of two for each pair.
+-- Lists that have the mandatory pairs of an assertion: the groups of its frame, or a list of two
+-- for each pair.
 use Rattle.frame.proofs.Words.{◌≡◌, ◌∙◌, ap, sym, subst, arith, refl, true≢false, inl, inr, or_cases, or_right, ℕ, zero, suc, ◌+◌, ◌-◌, ◌<◌, ◌==◌, nat_eq, Bool, true, false, not, ◌&&◌, ◌||◌, or-false, and-false, and-or_distrib_left, List, [], ◌∷◌, ◌++◌, length, map, take, get_or, list_any, list_any_more, list_any-append, list_any-map, Name, name_eq, has_name, name_at, AreDistinct, Stmt, Database, before, decode, expr_of, is_assertion, hypotheses, is_mandatory, mandatory_groups, AreBelow, AllBelow, AreNumberedHypotheses, AreListsOf, IsKeptAs, is_typed, groups_by, symbols_at, hypothesis_at, hypothesis_by, entry_hypothesis, typecode_at, is_typed_by, AreHypotheses, AreNumbered, HasTwoSymbolsIfFloat, Kind, Float, AreSearched, slice_get_within, ◌⊎◌, actives, is_disj, Assertion, AssertionView, Entry, Storage, AreStored, names_in, labels_in, statements_of, are_pair, IsFilledFrom}
 use Rattle.frame.specs.AssertionView.{AreCitingListsOf, AreMandatoryPairs, IsCitingView, has_both}
 use Rattle.frame.specs.Stored.PairLists.{HasPairs, HasSameHypotheses, IsFilledByPairs, IsFilledForCitation, IsSearchPosition, are_among, is_beside}
@@ -142,7 +143,8 @@ module _ (k : Storage) (at : ℕ) where
     below = λ b. subst (AllBelow (length (names_in k))) (sym gs) (below-push (length (names_in k)) old.groups (x ∷ y ∷ []) b (first, (second, tt)));
   }
 
-  -- adding the pairs that pass one test and then those that pass another adds those that pass either
+  -- adding the pairs that pass one test and then those that pass another adds those that pass
+  -- either
   pub pairs-join : (s t r : ℕ → ℕ → Bool) (a b c : Assertion) → HasPairs k at s a b → HasPairs k at t b c → ((u v : ℕ) → (u == v) ≡ false → r u v ≡ (s u v || t u v)) → HasPairs k at r a c
   pairs-join s t r a b c h g is = record {
     hypotheses = g.hypotheses ∙ h.hypotheses;

@@ -4,7 +4,8 @@ use Rattle.frame.proofs.AscendingLists.{in-place, place-in, above-less}
 use Rattle.frame.proofs.StoredReading.{get-stmt}
 use Rattle.frame.proofs.ActivePositions.{last-some}
 
--- if only statements that neither open nor close a block pass a test, the last entry that passes is such a statement
+-- if only statements that neither open nor close a block pass a test, the last entry that passes is
+-- such a statement
 pub stands-plain : (test : Entry → Bool) (names labels : List Name) (es : List Entry) (p : ℕ) → ((e : Entry) → test e ≡ true → IsPlain (Some (stmt_of names labels e))) → p ≡ last_where test es → (p ≡ 0 → ⊥)
     → (1 ≤ p) × (p ≤ length es) × IsPlain (slice_get (map (stmt_of names labels) es) (p - 1))
 stands-plain test names labels es p plain h some =
@@ -69,7 +70,8 @@ rises-by (x ∷ y ∷ xs) r =
 rises-ascends : (xs : List ℕ) → IsStrictlyIncreasing xs → Ascends xs
 rises-ascends xs r = rises-by xs (λ k lt. let e : k + 1 ≡ suc k = omega arith in subst (λ m. get_or xs k 0 < get_or xs m 0) e (r k (omega (arith, lt))))
 
--- a list with exactly those for which P holds has exactly those for which Q holds, if P and Q are equivalent
+-- a list with exactly those for which P holds has exactly those for which Q holds, if P and Q are
+-- equivalent
 pub those-by : {P Q : ℕ → Type 0} {list : List ℕ} → ListsExactly P list → ((p : ℕ) → P p → Q p) → ((p : ℕ) → Q p → P p) → ListsExactly Q list
 those-by those f g = record { ascends = those.ascends; all = λ p q. those.all p (g p q); only = λ p i. f p (those.only p i) }
 
@@ -117,7 +119,8 @@ looked_up-more es S looked_up c old new more there d p h f =
 
 -- ---- the items found for each element of a list, one after another
 
--- the new list with the items for the elements left has the same items as the old list with those for all elements
+-- the new list with the items for the elements left has the same items as the old list with those
+-- for all elements
 pub record HasLeft (P : ℕ → ℕ → Type 0) (all left old new : List ℕ) : Type 0 where
   pub there : (p : ℕ) → In p old ⊎ HoldsForSome P all p → In p new ⊎ HoldsForSome P left p
   pub back : (p : ℕ) → In p new ⊎ HoldsForSome P left p → In p old ⊎ HoldsForSome P all p
@@ -144,7 +147,8 @@ left-ordered P all left old mid new none h those = those-by those (λ p i. h.bac
     by p (inl i) = i
     by p (inr s) = absurd (subst (In s.one) none s.among)
 
--- the active `$f` of the symbols, the active `$e` and the hypotheses kept with these are what is to be collected
+-- the active `$f` of the symbols, the active `$e` and the hypotheses kept with these are what is to
+-- be collected
 pub collected-from : (es : List Entry) (S T : Database) (codes floats list : List ℕ) → T ≡ S → AreFloats es S codes floats → AreWithEssentials es T floats list → AreCollected es S codes list
 collected-from es S T codes floats list same f w =
     those-by (subst (λ D. AreWithEssentials es D floats list) same w) (λ p. ⊎_map (f.only p) (λ g. g)) (λ p. ⊎_map (f.all p) (λ g. g))

@@ -95,7 +95,8 @@ module _ (es : List Entry) (names labels : List Name) (i : ℕ) (all : AllKept (
             ]
       ]
 
-  -- the `$f` of the assertion's own variables, the active `$e` and the hypotheses kept with these are the mandatory hypotheses
+  -- the `$f` of the assertion's own variables, the active `$e` and the hypotheses kept with these
+  -- are the mandatory hypotheses
   pub buffered-hypotheses : (list : List ℕ) → AreWithEssentials es S (floats_in S (expr_of s)) list → list ≡ hypotheses S s
   buffered-hypotheses list w =
       same-lists list (hypotheses S s) w.ascends (ascends-active (is_hypothesis S s) 1 S).1 (λ p i. given-hyp p (w.only p i)) (λ p i. w.all p (hyp-given p i))

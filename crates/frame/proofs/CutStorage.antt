@@ -1,4 +1,5 @@
--- The storage after it is cut to its first statements, and after added statements are removed again.
+-- The storage after it is cut to its first statements, and after added statements are removed
+-- again.
 use Rattle.frame.proofs.Words.{sym, ◌∙◌, ap, subst, arith, take-take, ◌≡◌, ℕ, ◌+◌, ◌<◌, ◌≤◌, true, List, length, map, take, drop, slice_get, Some, refl, suc, [], ◌∷◌, Option, None, length-take-le, take-map, take-append-drop, take_at, length-map, Name, Database, IsNumberingOf, Declared, declared_symbols, declared_labels, stays_open, label_of, symbols_of, labels_of, prepend_option, LastActive, Entry, LastDeclarations, is_disj, is_var, last_active_of, stmt_of, statements_of, positions_from, AreAllLegal, AreGivenBy, replaced_of, last_declarations_of, names_in, labels_in, option_position, AreNumbered, KeepsCounts, HasMoreAtEnd, Storage, naming_of, AreKept, AreStored, Extends, has_parts, IsKeptAs, extends-length, extends-take, take-get, labels_of-append, AreKeptUntil}
 use Rattle.frame.proofs.StackLemmas.{essentials-back, stacks-back}
 use Rattle.frame.proofs.BlockWalkLemmas.{get-take}

@@ -1,4 +1,5 @@
--- The last declarations of symbols, and those that they replace, as a statement is appended or removed.
+-- The last declarations of symbols, and those that they replace, as a statement is appended or
+-- removed.
 use Rattle.frame.proofs.Words.{sym, ◌∙◌, ap, arith, add-zero, append-nil, append_assoc, length-append, ◌≡◌, ℕ, zero, suc, ◌+◌, Bool, true, false, cond, ◌||◌, nat_eq, List, [], ◌∷◌, ◌++◌, length, get_or, slice_get, slice_set, Option, Some, refl, ◌-◌, ◌<◌, map, take, drop, or-false, get_or_from_slice_get, list_any, take_all, take_more, map_push, drop-append_seam, Float, last_of, with_last, is_float_kind, is_var_kind, second_is, ◌&&◌, Entry, LastDeclarations, is_float_with, is_var_with, last_from, last_declarations_of, AreGivenBy, replaced_by, replaced_after, replaced_of, with_entry, with_declared, place, Kind, Var, Extends}
 use Rattle.frame.proofs.BlockWalkLemmas.{take-one}
 use Rattle.frame.proofs.LegalAfter.{stands-at}

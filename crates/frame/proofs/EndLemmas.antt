@@ -1,4 +1,5 @@
--- Where blocks end, as statements are appended or removed, and which statements are active by the ends.
+-- Where blocks end, as statements are appended or removed, and which statements are active by the
+-- ends.
 use Rattle.frame.proofs.Words.{sym, ◌∙◌, ap, subst, arith, inl, inr, length-append, length-drop, add-zero, ◌≡◌, ◌≢◌, ℕ, zero, suc, ◌+◌, ◌-◌, ◌<◌, ◌≤◌, Bool, true, false, cond, not, ◌==◌, ◌&&◌, ◌||◌, nat_eq, nat_le, ◌⊎◌, List, [], ◌∷◌, ◌++◌, length, take, drop, get_or, slice_get, slice_set, Option, Some, None, refl, get_or-append_seam, get_or-take, get_or_read, drop-append-le, drop-take, length-take-le, take-append-drop, get_or-set_other, drop_all, length-set, length-map, nil_from_length, take-take, cases_eq, and_parts, slice_get_within, same_Some, slice_get-get_or, Stmt, Open, Close, Database, stays_open, is_open, is_close, is_active, deficit, no_deficit, below-deficit, deficit-close, left_open, stays_open-same, place, LastActive, last_active_of_kind, last_position, last_active_of, kind_of, IsPlain, Kind, Storage, names_in, labels_in, statements_of, stmt_by, stmt_of, Name, decode, name_at, get-push, get-more, AreStored, end_from, end_of, AreBlockEnds, AreEnds, AreBlocks, with_end, Entry, get_or-append, get_or-set_at}
 use Rattle.std.specs.Cmp.{both_ways}
 use Rattle.scope.proofs.ActiveLemmas as scope

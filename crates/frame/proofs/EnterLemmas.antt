@@ -46,7 +46,8 @@ pub essential-bare : (s : Stmt) → is_essential (bare s) ≡ is_essential s
 essential-bare (stmt.Prove label expr proof) = refl
 essential-bare s = refl
 
--- the entry's header, the declarations of the statement, and its numbers as recorded before and after
+-- the entry's header, the declarations of the statement, and its numbers as recorded before and
+-- after
 pub record IsEntered (old new : Storage) (s : Stmt) (h : EntryHeader) (before after : Option (List ℕ)) : Type 0 where
   pub stored : AreStored old
   pub legal : IsLegal (statements_of old) s

@@ -1,4 +1,5 @@
--- The sets of the hypotheses that the active `$e` bring along: read at a position, kept for the next statement, and truncated.
+-- The sets of the hypotheses that the active `$e` bring along: read at a position, kept for the
+-- next statement, and truncated.
 use Rattle.frame.proofs.Words.{◌≡◌, ◌∙◌, ap, sym, subst, arith, refl, inl, inr, ⊎_elim, ⊎_map, ℕ, zero, suc, ◌+◌, ◌-◌, ◌<◌, ◌≤◌, ◌⊎◌, true, false, cond, List, [], ◌∷◌, ◌++◌, length, length-take, length-take-le, map, map-append, take, take-take, take_all, take-append-le, nat_lt, slice_get, Option, Some, None, take-get, get-push, slice_get_within, Database, Entry, Stmt, LastActive, Ess, actives, last_active_of, is_essential, is_close, stmt_of, names_in, labels_in, statements_of, AreStored, Storage, Extends, extends-length, extends-take, In, Ascends, ListsExactly, HasMore, HoldsForSome, IsFromEssentials, IsKeptWith, kept_at, option_kept, set_at, with_position, cond_both, max, nat_tests, ascends-with, set_at-extends, KeptSet, EssentialSets, AreAmong, index_of, item_by, option_set, kept_set, IsSetFromEssentials, IsKeptSet, AreEssentialSets}
 use Rattle.frame.proofs.SparseLemmas.{item-found}
 use Rattle.frame.proofs.BlockWalkLemmas.{get-take, take-one}
@@ -127,7 +128,8 @@ kept-ascends g es S (suc i) are some = by (item_by index_of g.kept i) refl some
         let item = item-found index_of g.kept i x e in
         subst (λ o. Ascends (set_at g.sets (option_set o))) (sym e) ((are.each item.place x item.got).given (λ z. some (ap option_set e ∙ z))).ascends
 
--- the set of the next `$e` is that of the last active one, with the `$f` of its own variables and itself
+-- the set of the next `$e` is that of the last active one, with the `$f` of its own variables and
+-- itself
 pub set-next : (k : Storage) (g : EssentialSets) (n : ℕ) (e : Entry) (mid new : List (List ℕ)) (set made : ℕ) → AreStored k → AreEssentialSets g k.entries (statements_of k) → n ≡ length k.entries → slice_get k.entries (n - 1) ≡ Some e → e.kind ≡ Ess
     → (kept_set g.kept e.last_active.essential ≡ 0 → ⊥) → Ascends (set_at mid set) → HasMore (λ p. In p e.assertion.hypotheses) (set_at g.sets (kept_set g.kept e.last_active.essential)) (set_at mid set) → set_at new made ≡ with_position (n - 1 + 1) (set_at mid set)
     → ListsExactly (IsFromEssentials k.entries (statements_of k)) (set_at new made)

@@ -1,4 +1,5 @@
--- Facts that are kept with statements: they stay true as statements are added, and as later ones are removed.
+-- Facts that are kept with statements: they stay true as statements are added, and as later ones
+-- are removed.
 use Rattle.frame.proofs.Words.{◌≡◌, ◌∙◌, ap, sym, subst, arith, ℕ, ◌+◌, ◌-◌, ◌≤◌, List, [], ◌∷◌, ◌++◌, length, length-append, length-take, length-take-le, take, drop, take_all, take-take, take-append-drop, take-append-le, Result, Ok, Err, OnOk, OnErr, Stmt, Name, Database, name_at, name_at-more, is_pair, symbols_of, symbols_of-later, statements_of, Storage, AreStored, Numbered, EssentialSets, AreFrames}
 use Rattle.frame.specs.declared.kept_facts.KeptFacts.{KeptFacts}
 use Rattle.frame.specs.declared.pair_facts.PairFact.{PairFact}

@@ -1,4 +1,5 @@
--- The mandatory hypotheses of an assertion whose active `$e` bring along a set: this set, and the `$f` of the assertion's own variables that are not in it.
+-- The mandatory hypotheses of an assertion whose active `$e` bring along a set: this set, and the
+-- `$f` of the assertion's own variables that are not in it.
 use Rattle.frame.proofs.Words.{◌≡◌, ◌∙◌, ap, sym, subst, arith, refl, ⊎_map, ℕ, ◌-◌, ◌<◌, ◌≤◌, true, false, not, List, [], ◌∷◌, length, length-append, length-take, filter, take, Stmt, Entry, LastActive, Storage, hypotheses, is_hypothesis, is_assertion, is_float_in, expr_of, last_active_of, statements_of, Ascends, ListsExactly, IsFromEssentials, In, set_at, ◌^◌, has_position, EssentialSets, AreFrames, kept_set, AreMerged, with_each}
 use Rattle.frame.proofs.ActivePositions.{active-members, ascends-active}
 use Rattle.frame.proofs.AssertionViewLemmas.{IsThere}

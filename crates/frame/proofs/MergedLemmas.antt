@@ -1,4 +1,5 @@
--- A set of positions merged with own positions, which are not in it: which positions there are, how many, and which one is at an index.
+-- A set of positions merged with own positions, which are not in it: which positions there are, how
+-- many, and which one is at an index.
 use Rattle.frame.proofs.Words.{◌≡◌, ◌∙◌, ap, sym, subst, arith, refl, inl, inr, ⊎_elim, ℕ, zero, suc, ◌+◌, ◌<◌, ◌≤◌, ◌==◌, ◌||◌, ◌⊎◌, true, false, List, [], ◌∷◌, length, get_or, slice_get, Some, slice_get-get_or, ◌-◌, Result, Ok, Err, or_right, or_left, or_cases, true≢false, Bool, not, not-true, cond, ◌++◌, filter, filter-append, take, take_more, ⊎_map, In, ListsExactly, cases_Bool, cases_eq, cases_lt, cond_both, MatchResult, is_ok, nat_tests, slice_get_cases, AreAbove, Ascends, count_below, has_position, above-all, ascends-with, count-above, count-all, count-get, count-grows, count-less, count-with, get-count, has-above, has-get, has-with, length-with, AreMissing, with_each}
 
 pub has-each : (q : ℕ) (own xs : List ℕ) → has_position q (with_each own xs) ≡ (has_position q own || has_position q xs)
@@ -38,7 +39,8 @@ get-own own xs j k p m at is =
     let below : count_below p (with_each own xs) ≡ k = (let all = count-each p own xs m in let before = count-get p own j m.own_ascends at in omega arith) in
     ap (slice_get (with_each own xs)) (sym below) ∙ get-count p (with_each own xs) (ascends-each own xs m.ascends) has
 
--- if the own position at index j is not below p and the one before it is, exactly j of them are below p
+-- if the own position at index j is not below p and the one before it is, exactly j of them are
+-- below p
 count-split : (p : ℕ) (own : List ℕ) (j : ℕ) → Ascends own → j ≤ length own → ((i x : ℕ) → suc i ≡ j → slice_get own i ≡ Some x → x < p) → ((x : ℕ) → slice_get own j ≡ Some x → p ≤ x) → count_below p own ≡ j
 count-split p [] zero ascends within low high = refl
 count-split p [] (suc j) ascends within low high = absurd (omega arith)
@@ -61,7 +63,8 @@ count-split p (y ∷ ys) (suc (suc j)) ascends within low high =
     first-below q (w ∷ zs) zero z above at = let first = above.0 in let same : w ≡ z = cc in omega arith
     first-below q (w ∷ zs) (suc k) z above at = first-below q zs k z above.1 at
 
--- the position at index i of the set comes after j own ones, if the one of these before it belongs before it and the next does not
+-- the position at index i of the set comes after j own ones, if the one of these before it belongs
+-- before it and the next does not
 pub get-set : (own xs : List ℕ) (i j k p : ℕ) → AreMissing xs own → slice_get xs i ≡ Some p → i + j ≡ k → j ≤ length own
     → ((m x : ℕ) → suc m ≡ j → slice_get own m ≡ Some x → count_below x xs + m < k) → ((x : ℕ) → slice_get own j ≡ Some x → k < count_below x xs + j) → slice_get (with_each own xs) k ≡ Some p
 get-set own xs i j k p m at is within low high =

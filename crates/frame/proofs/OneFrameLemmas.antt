@@ -25,7 +25,8 @@ any-standing x [] = refl
 any-standing x ((at, Ess label expr) ∷ es) = ap (λ b. has_name x expr || b) (any-standing x es)
 any-standing x ((at, t) ∷ es) = any-standing x es
 
--- the mandatory variables are the recorded ones of the assertion, and those of the `$e` that are not yet visited
+-- the mandatory variables are the recorded ones of the assertion, and those of the `$e` that are
+-- not yet visited
 pub recorded-start : (S : Database) (s : Stmt) (x : Name)
     → ((false || (is_variable S x && has_name x (expr_of s))) || (is_variable S x && list_any (is_in_essential x) (frame_statements_of S))) ≡ is_mandatory S s x
 recorded-start S s x =

@@ -1,4 +1,5 @@
--- The search for an active `$d` that has two variables, with the facts that earlier searches recorded.
+-- The search for an active `$d` that has two variables, with the facts that earlier searches
+-- recorded.
 -- The `$d` of a variable, from one of them back, are those that were active right after that one.
 use Rattle.frame.proofs.Words.{◌≡◌, ◌∙◌, ap, sym, subst, arith, refl, inl, inr, ℕ, zero, suc, ◌+◌, ◌-◌, ◌<◌, ◌≤◌, Bool, true, false, cond, cases_lt, not, ◌||◌, ◌&&◌, ◌==◌, List, [], ◌∷◌, ◌++◌, length, take, drop, drop_all, get_or, slice_get, Some, list_any, name_at, AreDistinct, before, names_in, statements_of, is_disj, is_pair, Storage, AreStored, Numbered, history, stack_at, AreSearched, are_pair, IsOfKind, has_code, positions_with, actives, last_active_of_kind, Stmt}
 use Rattle.frame.specs.declared.pair_facts.PairFact.{PairFact}
@@ -71,7 +72,8 @@ row-top k x p rest (suc fuel) n le high is = step (last_active_of_kind is_disj (
         by false has s above low stands of_kind whole own =
             earlier (suc i - 1) (omega (arith, low)) (whole ∙ ap (λ t. cond t (suc i ∷ row k x (suc i - 1)) (row k x (suc i - 1))) has)
 
--- x and y are a pair after the first n statements exactly if one of the `$d` of x that are active there has y
+-- x and y are a pair after the first n statements exactly if one of the `$d` of x that are active
+-- there has y
 pub row-pair : (k : Storage) (x y n : ℕ) (xs : List ℕ) → AreStored k → AreDistinct (names_in k) → x < length (names_in k) → y < length (names_in k) → (x == y) ≡ false → n ≤ length (statements_of k) → xs ≡ row k x n
     → is_pair (take n (statements_of k)) (name_at (names_in k) x) (name_at (names_in k) y) ≡ list_any (has_code k.entries y) xs
 row-pair k x y n xs stored distinct first second differ le is =

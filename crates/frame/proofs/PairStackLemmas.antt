@@ -29,7 +29,8 @@ positions_with-any-after q found es c (p ∷ ps) = by (has_code es c p.0) (posit
     by true e = e ∙ swapped (q p.0) (list_any q found) rest
     by false e = e
 
--- one of the positions with the symbol c passes a test exactly if one of all positions has c and passes
+-- one of the positions with the symbol c passes a test exactly if one of all positions has c and
+-- passes
 pub positions_with-any : (q : ℕ → Bool) (es : List Entry) (c : ℕ) (ps : List (ℕ × Stmt)) → list_any q (positions_with es c ps) ≡ list_any (λ p. has_code es c p.0 && q p.0) ps
 positions_with-any q es c ps = positions_with-any-after q [] es c ps
 

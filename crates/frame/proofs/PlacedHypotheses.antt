@@ -1,4 +1,5 @@
--- The positions of the active statements that pass a test, and of the mandatory hypotheses of a statement.
+-- The positions of the active statements that pass a test, and of the mandatory hypotheses of a
+-- statement.
 use Rattle.frame.proofs.Words.{list_any, sym, ◌∙◌, ap, subst, arith, inl, inr, ◌≡◌, ℕ, suc, ◌+◌, ◌&&◌, Bool, true, ◌⊎◌, List, [], ◌∷◌, ◌++◌, length, map, filter, refl, ⊎_map, or_right, or_cases, Name, has_name, Stmt, Database, stays_open, active, expr_of, is_essential, is_used, is_hypothesis, hypotheses, In}
 use Rattle.frame.proofs.ActiveAfter.{Stands, active-stands, stands-active}
 use Rattle.frame.proofs.ActivePositions.{IsActiveAt, active-members, members-active}

@@ -113,7 +113,8 @@ positions_with-same found es fs c n (p ∷ ps) are same =
 code-front : (es : List Entry) (c n p : ℕ) → 1 ≤ p → p ≤ n → has_code (take n es) c p ≡ has_code es c p
 code-front es c n p one le = ap (λ o. list_any (λ x. nat_eq c x) (option_symbols o)) (get-take (p - 1) n es (omega (arith, one, le)))
 
--- the statements active after the first m statements are found in the first n entries, if m is at most n
+-- the statements active after the first m statements are found in the first n entries, if m is at
+-- most n
 pub positions_with-front : (kind : Stmt → Bool) (es : List Entry) (c n m : ℕ) (S : Database) → m ≤ n → positions_with (take n es) c (actives kind (take m S)) ≡ positions_with es c (actives kind (take m S))
 positions_with-front kind es c n m S le =
     positions_with-same [] (take n es) es c n (actives kind (take m S)) (actives-in kind 1 1 n (take m S) (omega arith) (omega (arith, length-take {A = Stmt}, le)))

@@ -1,4 +1,5 @@
--- The typecode of an active `$f` is no variable, a used variable has an active `$f`, and the mandatory variables are those of the mandatory `$f`.
+-- The typecode of an active `$f` is no variable, a used variable has an active `$f`, and the
+-- mandatory variables are those of the mandatory `$f`.
 use Rattle.frame.proofs.Words.{list_any, ◌∙◌, ap, inl, inr, append_assoc, ◌≡◌, ℕ, suc, Bool, true, false, ◌||◌, List, [], ◌∷◌, ◌++◌, length, refl, not, ◌&&◌, or_left, or_cases, and_parts, not_both, list_any-append, list_any-from_Any, Any-from_list_any, Name, has_name, Stmt, Database, Expr, is_assertion, is_variable, is_float_of, stays_open, active, constants, variables, expr_of, is_essential, is_constant, has_float, IsLegal, starts_with_constant, is_used, is_mandatory, is_hypothesis, hypotheses, In, all-has, BeginsWithNoVariable}
 use Rattle.mm_read.specs.declared.stmt.Stmt.TheVariants.{Float, Ess, Axiom, Prove}
 use Rattle.frame.proofs.LegalLabels.{AllKept}
@@ -10,7 +11,8 @@ use Rattle.frame.proofs.PlacedHypotheses.{members, used-cases}
 
 -- ---- constants and variables of legal statements
 
--- if a statement that passes is active after A, and no later one closes a block of A, one is active after S
+-- if a statement that passes is active after A, and no later one closes a block of A, one is active
+-- after S
 pub still-active : (q : Stmt → Bool) (S A : Database) (t : Stmt) (B : Database) → S ≡ A ++ t ∷ B → stays_open 0 (t ∷ B) ≡ true → list_any (λ p. q p.1) (active A) ≡ true → list_any (λ p. q p.1) (active S) ≡ true
 still-active q S A t B whole stays h =
     let r = active-stands q 1 A h in
@@ -32,7 +34,8 @@ float-kinds S A l c x B all whole stays =
       still-active (λ s. has_name x (variables s)) S A (Float l c x) B whole stays (and_parts (is_variable A x) (not (has_float A x)) g7).0,
     )
 
--- the expression of a legal statement begins with a constant, and so not with a variable if no constant is one
+-- the expression of a legal statement begins with a constant, and so not with a variable if no
+-- constant is one
 fixed : (S A : Database) (s : Stmt) → ((x : Name) → is_constant A x ≡ true → is_variable S x ≡ false) → IsLegal A s → BeginsWithNoVariable S (expr_of s)
 fixed S A s other legal = by s legal
   where

@@ -1,4 +1,5 @@
--- Each variable of a legal assertion is that of exactly one mandatory `$f`. So the results that the assertion takes determine the result that it gives.
+-- Each variable of a legal assertion is that of exactly one mandatory `$f`. So the results that the
+-- assertion takes determine the result that it gives.
 use Rattle.frame.proofs.Words.{list_all, All, variables, take, take-take, take-append_seam, arith, All-filter, All-map, All-get_or, All-from_get_or, slice_get_within, get_or_from_slice_get, sym, ◌∙◌, ap, append-nil, subst, get_or, ◌≡◌, ℕ, suc, ◌-◌, Bool, true, false, cond, List, [], ◌∷◌, ◌++◌, length, map, filter, slice_get, Some, refl, bytes_eq-Decides, and_parts, and_from, or_left, or_right, Name, name_eq, has_name, Stmt, Expr, Database, stays_open, stmt_at, before, expr_of, is_variable, HasAssertion, is_used, is_mandatory, is_hypothesis, hypotheses, active_disjoint_lists, has_two_or_more, mandatory_groups, AreImagesOfVariables, premises, expr_at, HasFloat, IsWellTyped, HasSingleResults, take-get}
 use Rattle.frame.proofs.LegalAfter.{stands-at}
 use Rattle.mm_read.specs.declared.stmt.Stmt.TheVariants.{Float, Ess}
@@ -67,7 +68,8 @@ module _ (S : Database) (a : ℕ) (s : Stmt) (legal : AllKept S) (is : HasAssert
       (λ i lt y k. (and_parts (has_name y (get_or (active_disjoint_lists T) i [])) (m y) (sym (has-filter m y (get_or (active_disjoint_lists T) i [])) ∙ k)).1))) in
       mandatory x (subst P (get_or_from_slice_get (mandatory_groups T s) k g [] h) (All-get_or P (mandatory_groups T s) k [] (slice_get_within (mandatory_groups T s) k g h) all) x has)
 
-  -- each variable of the assertion is that of exactly one mandatory `$f`, and its expressions begin with a constant
+  -- each variable of the assertion is that of exactly one mandatory `$f`, and its expressions begin
+  -- with a constant
   pub bound : IsWellTyped S a s
   bound = record {
     own = λ x has var. used-float x (or_left (has_name x (expr_of s)) _ has) var;

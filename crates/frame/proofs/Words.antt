@@ -1,4 +1,5 @@
--- The definitions and lemmas of std and of the layers below that the proofs of this crate use, re-exported from one place.
+-- The definitions and lemmas of std and of the layers below that the proofs of this crate use,
+-- re-exported from one place.
 pub use Rattle.entries.proofs.AddedStatement.{ok-weaker, on-err}
 pub use Rattle.entries.proofs.BufferPlaceLemmas.{get-push, take-get}
 pub use Rattle.entries.proofs.HistoryLemmas.{changed-twice, kept-changed, stack-changed, stack-kept, stack-later, until-changed}

@@ -61,7 +61,8 @@ pub record IsViewOf (S : Database) (names : List Name) (a : ℕ) (s : Stmt) (c :
 abbrev pub has_both : ℕ → ℕ → List ℕ → Bool
 has_both x y g = list_any (λ c. c == x) g && list_any (λ c. c == y) g
 
--- two different variables are both in one of the lists exactly if they are a mandatory pair of the assertion s at a
+-- two different variables are both in one of the lists exactly if they are a mandatory pair of the
+-- assertion s at a
 abbrev pub AreMandatoryPairs : Database → List Name → ℕ → Stmt → List (List ℕ) → Type 0
 AreMandatoryPairs S names a s groups =
     (x y : ℕ) → x < length names → y < length names → (x == y) ≡ false

@@ -1,5 +1,6 @@
 -- The answers that a verifier reads from a database by position.
--- Metamath, 4.2: each label names one statement; a proof may cite active hypotheses and earlier assertions.
+-- Metamath, 4.2: each label names one statement; a proof may cite active hypotheses and earlier
+-- assertions.
 -- The code returns numbers; these definitions say which statements and names they stand for.
 use Rattle.std.specs.Prelude.{◌≡◌, ℕ, ◌<◌, true, List, [], length, get_or, Option, Some, None}
 use Rattle.frame.specs.Words.{Name, Stmt, Database, stmt_at, expr_of, is_assertion, decode, AreDistinct}

@@ -1,5 +1,7 @@
--- A citation of a statement: of an active hypothesis, or of an earlier assertion with images for its variables.
--- Metamath, 4.2.6: the substituted mandatory hypotheses of a cited assertion are the results that it takes.
+-- A citation of a statement: of an active hypothesis, or of an earlier assertion with images for
+-- its variables.
+-- Metamath, 4.2.6: the substituted mandatory hypotheses of a cited assertion are the results that
+-- it takes.
 -- The code knows no images: it reads them off the results.
 use Rattle.std.specs.Prelude.{◌≡◌, ℕ, ◌<◌, Bool, true, false, IsTrue, List, [], map, Option, Some, None}
 use Rattle.frame.specs.Words.{list_all, Name, Stmt, Expr, Database, stmt_at, before, is_active, is_variable, is_assertion, expr_of, label_of}

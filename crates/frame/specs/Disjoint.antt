@@ -4,7 +4,8 @@ use Rattle.frame.specs.Words.{list_all, Name, name_eq, Expr, Database, is_variab
 use Rattle.frame.specs.FrameOf.{is_pair}
 use Rattle.frame.specs.Substitution.{Images, image}
 
--- every variable of e and every variable of f are a pair of an active `$d`; so no variable is in both
+-- every variable of e and every variable of f are a pair of an active `$d`; so no variable is in
+-- both
 abbrev pub are_disjoint : Database → Expr → Expr → Bool
 are_disjoint S e f =
     list_all (λ u. list_all (λ v. not (is_variable S u) || not (is_variable S v) || is_pair S u v) f) e

@@ -12,7 +12,8 @@ is_used S s x = has_name x (expr_of s) || list_any (λ p. is_essential p.1 && ha
 abbrev pub is_mandatory : Database → Stmt → Name → Bool
 is_mandatory S s x = is_variable S x && is_used S s x
 
--- an active statement is a mandatory hypothesis of the assertion s: a `$e`, or the `$f` of a mandatory variable
+-- an active statement is a mandatory hypothesis of the assertion s: a `$e`, or the `$f` of a
+-- mandatory variable
 abbrev pub is_hypothesis : Database → Stmt → Stmt → Bool
 is_hypothesis S s (Ess label expr) = true
 is_hypothesis S s (Float label constant variable) = is_mandatory S s variable
@@ -26,7 +27,8 @@ hypotheses S s = map (λ p. p.0) (filter (λ p. is_hypothesis S s p.1) (active S
 abbrev pub together : List (List Name) → Name → Name → Bool
 together lists x y = not (name_eq x y) && list_any (λ names. has_name x names && has_name y names) lists
 
--- the list of the variables of each active `$d`, mandatory or not; an empty list for each other active statement
+-- the list of the variables of each active `$d`, mandatory or not; an empty list for each other
+-- active statement
 abbrev pub active_disjoint_lists : Database → List (List Name)
 active_disjoint_lists S = map (λ p. disjoint_names p.1) (active S)
 

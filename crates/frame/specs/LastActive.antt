@@ -1,5 +1,7 @@
--- The last active statement of a kind after a list of statements, from which the active one before it is found.
--- Metamath, 4.2.8: blocks nest, so a statement that is active at an active statement is still active.
+-- The last active statement of a kind after a list of statements, from which the active one before
+-- it is found.
+-- Metamath, 4.2.8: blocks nest, so a statement that is active at an active statement is still
+-- active.
 -- The code keeps for each position the last active statement of four kinds, and walks back from it.
 use Rattle.std.specs.Prelude.{ℕ, Bool, true, false, List, [], ◌∷◌, filter}
 use Rattle.frame.specs.Words.{Stmt, Database, active_from, is_open, is_essential, LastActive}

@@ -1,4 +1,5 @@
--- How a database is stored: entries, counts and parts, how the parts of a statement are found, and the whole storage.
+-- How a database is stored: entries, counts and parts, how the parts of a statement are found, and
+-- the whole storage.
 -- No public clause cites it.
 pub mod EntryMeanings
 pub mod Counts

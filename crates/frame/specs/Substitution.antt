@@ -1,4 +1,5 @@
--- Simultaneous substitution of images for the symbols of an expression. A symbol is a name, or a number that stands for one.
+-- Simultaneous substitution of images for the symbols of an expression. A symbol is a name, or a
+-- number that stands for one.
 use Rattle.std.specs.Prelude.{ℕ, suc, Bool, nat_eq, if◌then◌else◌, List, [], ◌∷◌, flat_map}
 use Rattle.frame.specs.Words.{Name, name_eq, Expr, decode}
 

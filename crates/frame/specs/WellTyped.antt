@@ -1,5 +1,6 @@
 -- Consequences of legality for the symbols of an assertion and of its mandatory hypotheses.
--- Metamath, 4.2.4 and 4.2.7: a variable that is used has exactly one active `$f`; an expression begins with a constant.
+-- Metamath, 4.2.4 and 4.2.7: a variable that is used has exactly one active `$f`; an expression
+-- begins with a constant.
 -- The code tests none of this when an assertion is cited.
 use Rattle.std.specs.Prelude.{◌≡◌, ℕ, true, false, List, [], ◌∷◌, slice_get, Some}
 use Rattle.frame.specs.Words.{Name, has_name, Stmt, Expr, Database, stmt_at, before, expr_of, is_variable}
@@ -26,10 +27,16 @@ BeginsWithNoVariable S (x ∷ e) = is_variable S x ≡ false
 -- mandatory hypothesis is a variable
 pub record IsWellTyped (S : Database) (a : ℕ) (s : Stmt) : Type 0 where
   pub own : (x : Name) → has_name x (expr_of s) ≡ true → is_variable (before S a) x ≡ true → HasFloat S (hypotheses (before S a) s) x
-  pub essential : (k p : ℕ) (label : Name) (e : Expr) (x : Name) → slice_get (hypotheses (before S a) s) k ≡ Some p → stmt_at S p ≡ Some (Ess label e) → has_name x e ≡ true → is_variable (before S a) x ≡ true → HasFloat S (hypotheses (before S a) s) x
+  pub essential : (k p : ℕ) (label : Name) (e : Expr) (x : Name) → slice_get (hypotheses (before S a) s) k ≡ Some p
+      → stmt_at S p ≡ Some (Ess label e) → has_name x e ≡ true → is_variable (before S a) x ≡ true
+      → HasFloat S (hypotheses (before S a) s) x
   pub grouped : (k : ℕ) (g : List Name) (x : Name) → slice_get (mandatory_groups (before S a) s) k ≡ Some g → has_name x g ≡ true → HasFloat S (hypotheses (before S a) s) x
-  pub still : (k p : ℕ) (label : Name) (e : Expr) (x : Name) → slice_get (hypotheses (before S a) s) k ≡ Some p → stmt_at S p ≡ Some (Ess label e) → is_variable (before S p) x ≡ true → is_variable (before S a) x ≡ true
-  pub variable : (k p : ℕ) (label constant x : Name) → slice_get (hypotheses (before S a) s) k ≡ Some p → stmt_at S p ≡ Some (Float label constant x) → is_variable (before S a) x ≡ true
-  pub once : (k j p q : ℕ) (l c m d x : Name) → slice_get (hypotheses (before S a) s) k ≡ Some p → slice_get (hypotheses (before S a) s) j ≡ Some q → stmt_at S p ≡ Some (Float l c x) → stmt_at S q ≡ Some (Float m d x) → k ≡ j
+  pub still : (k p : ℕ) (label : Name) (e : Expr) (x : Name) → slice_get (hypotheses (before S a) s) k ≡ Some p
+      → stmt_at S p ≡ Some (Ess label e) → is_variable (before S p) x ≡ true → is_variable (before S a) x ≡ true
+  pub variable : (k p : ℕ) (label constant x : Name) → slice_get (hypotheses (before S a) s) k ≡ Some p
+      → stmt_at S p ≡ Some (Float label constant x) → is_variable (before S a) x ≡ true
+  pub once : (k j p q : ℕ) (l c m d x : Name) → slice_get (hypotheses (before S a) s) k ≡ Some p
+      → slice_get (hypotheses (before S a) s) j ≡ Some q → stmt_at S p ≡ Some (Float l c x)
+      → stmt_at S q ≡ Some (Float m d x) → k ≡ j
   pub first : (k p : ℕ) (r : Stmt) → slice_get (hypotheses (before S a) s) k ≡ Some p → stmt_at S p ≡ Some r → BeginsWithNoVariable (before S a) (expr_of r)
   pub own_first : BeginsWithNoVariable (before S a) (expr_of s)

@@ -1,4 +1,5 @@
--- The definitions of the layers below that this crate's definitions use, re-exported from one place.
+-- The definitions of the layers below that this crate's definitions use, re-exported from one
+-- place.
 pub use Rattle.entries.specs.Entries.{Assertion, Entry, no_parts}
 pub use Rattle.entries.specs.Histories.{AreUntil, StackVersion, history, kept_until, stack_at}
 pub use Rattle.entries.specs.PositionSets.{Ascends, set_at}
@@ -20,7 +21,7 @@ pub use Rattle.scope.specs.Active.{active, active_from, before, expr_of, is_acti
 pub use Rattle.scope.specs.Declares.{declared_with}
 pub use Rattle.scope.specs.Kinds.{Declared, declared_labels, declared_symbols, is_some_constant, is_some_variable}
 pub use Rattle.scope.specs.Legal.{IsLegal}
-pub use Rattle.scope.specs.Symbols.{labels_of, symbols_of}
+pub use Rattle.scope.specs.Symbols.{AreVariableNumbers, labels_of, symbols_after, symbols_of}
 pub use Rattle.scope.specs.declared.numbering.NameKind.{NameKind}
 pub use Rattle.scope.specs.declared.frame_statements.FrameStatement.{FrameStatement}
 pub use Rattle.std.specs.List.{All, list_all, list_any}

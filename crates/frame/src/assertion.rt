@@ -35,7 +35,8 @@ impl Frame {
         self.hypotheses.as_slice()
     }
 
-    /// Returns the disjoint variable conditions: for each active `$d` its mandatory variables, if they are two or more.
+    /// Returns the disjoint variable conditions: for each active `$d` its mandatory variables, if
+    /// they are two or more.
     pub fn groups(&self) -> &[Words]
         ensures { result.now ≡ self.now.groups }
     {

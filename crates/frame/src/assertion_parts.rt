@@ -1,7 +1,8 @@
-//! Makes the parts that are kept with a statement: its hypotheses, each as one number, and its disjoint variables.
-ghost use Rattle.std.specs.Prelude.{◌≡◌, ℕ, List, ◌+◌, ◌-◌, ◌≤◌, ◌==◌, ◌||◌, ◌++◌, ◌∷◌, [], true, false, if◌then◌else◌, length, map, take, OnOk};
+//! Makes the parts that are kept with a statement: its hypotheses, each as one number, and its
+//! disjoint variables.
+ghost use Rattle.std.specs.Prelude.{◌≡◌, ℕ, List, ◌+◌, ◌-◌, ◌≤◌, ◌==◌, ◌||◌, [], true, false, length, map, take, OnOk};
 ghost use Rattle.mm_read.specs.declared.stmt.Stmt.{Stmt as Statement};
-ghost use Rattle.{names.specs.Codes.decode, names.specs.Codes.with_names, scope.specs.Active.expr_of, scope.specs.Active.bare, scope.specs.Stored.SymbolNumbers.AreRecorded, scope.specs.Symbols.symbols_declared_by, scope.specs.Symbols.symbols_in, entries.specs.Hypotheses.decoded_hypothesis, entries.specs.Stored.Spans.cut, entries.specs.Stored.Spans.AreSpansIn, frame.specs.Below.AreBelow, frame.specs.AssertionView.typecode_of, frame.specs.Stored.Whole.AreStored, frame.specs.Stored.Whole.ArePartsFor, frame.specs.Stored.Hypotheses.AreHypotheses, frame.specs.Stored.Hypotheses.IsFilledFrom, frame.specs.Stored.Counts.HasTwoSymbolsIfFloat, frame.specs.Stored.Counts.kind_of, frame.specs.Stored.AssertionParts.hypothesis_at, frame.specs.Stored.AssertionParts.hypothesis_by, frame.specs.Stored.AssertionParts.typecode_at, frame.specs.Stored.AssertionParts.has_two_or_more_items, frame.specs.Stored.AssertionParts.is_typed, frame.specs.Stored.AssertionParts.is_typed_by, frame.specs.Stored.AssertionParts.recorded_in, std.specs.List.list_any, frame.specs.Stored.AssertionParts.has_parts, frame.specs.Stored.EntryMeanings.names_in, frame.specs.Stored.EntryMeanings.statements_of, frame.specs.FrameOf.hypotheses, frame.specs.Stored.OneFrame.mandatory_positions};
+ghost use Rattle.{names.specs.Codes.decode, names.specs.Codes.with_names, scope.specs.Active.expr_of, scope.specs.Active.bare, scope.specs.Stored.SymbolNumbers.AreRecorded, scope.specs.Symbols.symbols_declared_by, scope.specs.Symbols.symbols_in, entries.specs.Hypotheses.decoded_hypothesis, entries.specs.Stored.Spans.cut, entries.specs.Stored.Spans.AreSpansIn, frame.specs.Below.AreBelow, frame.specs.AssertionView.typecode_of, frame.specs.Stored.Whole.AreStored, frame.specs.Stored.Whole.ArePartsFor, frame.specs.Stored.Hypotheses.AreHypotheses, frame.specs.Stored.Hypotheses.IsFilledFrom, frame.specs.Stored.Counts.HasTwoSymbolsIfFloat, frame.specs.Stored.Counts.kind_of, frame.specs.Stored.AssertionParts.hypothesis_at, frame.specs.Stored.AssertionParts.hypothesis_by, frame.specs.Stored.AssertionParts.typecode_at, frame.specs.Stored.AssertionParts.is_typed, frame.specs.Stored.AssertionParts.is_typed_by, frame.specs.Stored.AssertionParts.with_group, std.specs.List.list_any, frame.specs.Stored.AssertionParts.has_parts, frame.specs.Stored.EntryMeanings.names_in, frame.specs.Stored.EntryMeanings.statements_of, frame.specs.FrameOf.hypotheses, frame.specs.Stored.OneFrame.mandatory_positions};
 
 use crate::at_position::last_active_at;
 use crate::essential_sets::EssentialSets;
@@ -93,7 +94,7 @@ fn add_group(
     groups: &mut Vec<BufferPart>,
 ) -> Result<(), AllocError>
     requires within { AreSpansIn (length grouped_variables.old.items) groups.old.items }
-    ensures added { OnOk result (cut grouped_variables.new.items groups.new.items ≡ (if has_two_or_more_items (recorded_in variables.now codes.now) then cut grouped_variables.old.items groups.old.items ++ recorded_in variables.now codes.now ∷ [] else cut grouped_variables.old.items groups.old.items)) }
+    ensures added { OnOk result (cut grouped_variables.new.items groups.new.items ≡ with_group variables.now codes.now (cut grouped_variables.old.items groups.old.items)) }
     ensures within { AreSpansIn (length grouped_variables.new.items) groups.new.items }
 {
     let from = grouped_variables.len();
@@ -113,8 +114,8 @@ fn add_group(
 }
 
 /// Appends the other parts of an assertion at `at` to `buffers`, which has the positions of its
-/// mandatory hypotheses: each hypothesis as one number, its typecode, and the groups (for each active
-/// `$d` its mandatory variables, if they are two or more).
+/// mandatory hypotheses: each hypothesis as one number, its typecode, and the groups (for each
+/// active `$d` its mandatory variables, if they are two or more).
 ///
 /// Errors: an allocation fails. Cost: the hypotheses, and the symbols of the active `$d`.
 pub fn fill_from_hypotheses(

@@ -17,15 +17,17 @@ use crate::storage::Storage;
 use entries::Hypothesis;
 use std::alloc::{AllocError, Global};
 
-/// The number of symbols of `$d` that take about as long to go through as a search for a pair with known facts.
+/// The number of symbols of `$d` that take about as long to go through as a search for a pair with
+/// known facts.
 const PAIR_COST: usize = 2;
 
-/// The largest number of attempts to search for all pairs, each up to four times as long as the one before it.
+/// The largest number of attempts to search for all pairs, each up to four times as long as the one
+/// before it.
 const MAX_TRIES: usize = 16;
 
 /// Appends the other parts of an assertion at `at` to `buffers`, which has the positions of its
-/// mandatory hypotheses: each hypothesis as one number, its typecode, and groups that have exactly its
-/// mandatory pairs: one group for each pair if that costs less, else one for each `$d`.
+/// mandatory hypotheses: each hypothesis as one number, its typecode, and groups that have exactly
+/// its mandatory pairs: one group for each pair if that costs less, else one for each `$d`.
 ///
 /// Errors: an allocation fails.
 pub fn fill_citing_lists(
@@ -95,8 +97,8 @@ fn counts(
     Ok(counts)
 }
 
-/// Returns the pair of x and the variable at an index of `others`, given the counts of the variables in the list in which x
-/// comes right after `others`.
+/// Returns the pair of x and the variable at an index of `others`, given the counts of the
+/// variables in the list in which x comes right after `others`.
 fn sought_pair(x: u32, others: &[u32], index: usize, counts: &[usize]) -> SoughtPair
     requires { index < length others.now }
     ensures x { result.x ≡ x }
@@ -123,7 +125,8 @@ fn count_at(counts: &[usize], index: usize) -> usize {
 ///
 /// All searches together may pass a budget of `$d`. When it is spent, it is made four times as
 /// large. If the active `$d` have more symbols than the new budget, all pairs are searched for
-/// again, which the recorded facts make shorter, at most `MAX_TRIES` times; else `false` is returned.
+/// again, which the recorded facts make shorter, at most `MAX_TRIES` times; else `false` is
+/// returned.
 ///
 /// Errors: an allocation fails. Cost: at most a constant times that of the cheaper of the two.
 fn find_pairs(

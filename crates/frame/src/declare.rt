@@ -1,8 +1,8 @@
 //! Changes the names, the last declarations of symbols, the ends of blocks and the last active
-//! statements for one more statement. Undoes the changes of last declarations and of ends of blocks;
-//! `extend` undoes the others.
-ghost use Rattle.std.specs.Prelude.{◌≡◌, ℕ, ◌+◌, ◌≤◌, ◌==◌, ◌++◌, ◌∷◌, [], Some, length, slice_get, OnOk, if◌then◌else◌, map, take};
-ghost use Rattle.{std.specs.List.list_any, mm_read.specs.declared.stmt.Stmt.Stmt as Statement, scope.specs.Active.label_of, scope.specs.Declares.IsRecordedBy, scope.specs.Declares.MayDeclare, scope.specs.Declares.declared_with, entries.specs.Stored.Spans.Extends, frame.specs.Below.AreBelow, frame.specs.LastActive.last_active_of, frame.specs.declared.storage.LastDeclarations.LastDeclarations as Declarations, frame.specs.Stored.Whole.AreStored, frame.specs.Stored.EntryMeanings.option_position, frame.specs.Stored.EntryMeanings.statements_of, frame.specs.Stored.EntryMeanings.declared_by, frame.specs.Stored.EntryMeanings.last_of, frame.specs.Stored.EntryMeanings.with_last, frame.specs.Stored.EntryMeanings.AreGivenBy, frame.specs.Stored.EntryMeanings.replaced_of, frame.specs.Stored.EntryMeanings.last_declarations_of, frame.specs.Stored.Counts.HasMoreNames, frame.specs.Stored.Counts.HasRoom, frame.specs.Stored.Counts.kind_of, frame.specs.Stored.Counts.next_last_active, frame.specs.Stored.Counts.HasTwoSymbolsIfFloat, frame.specs.Stored.Ends.with_end, frame.specs.Stored.Ends.AreBlockEnds};
+//! statements for one more statement. Undoes the changes of last declarations and of ends of
+//! blocks; `extend` undoes the others.
+ghost use Rattle.std.specs.Prelude.{◌≡◌, ℕ, ◌+◌, ◌≤◌, ◌==◌, ◌++◌, ◌∷◌, [], length, OnOk, map, take};
+ghost use Rattle.{mm_read.specs.declared.stmt.Stmt.Stmt as Statement, scope.specs.Active.label_of, scope.specs.Declares.IsRecordedBy, scope.specs.Declares.MayDeclare, scope.specs.Declares.declared_with, entries.specs.Stored.Spans.Extends, frame.specs.Below.AreBelow, frame.specs.LastActive.last_active_of, frame.specs.declared.storage.LastDeclarations.LastDeclarations as Declarations, frame.specs.Stored.Whole.AreStored, frame.specs.Stored.EntryMeanings.option_position, frame.specs.Stored.EntryMeanings.statements_of, frame.specs.Stored.EntryMeanings.declared_by, frame.specs.Stored.EntryMeanings.last_of, frame.specs.Stored.EntryMeanings.with_last, frame.specs.Stored.EntryMeanings.AreDeclaredAt, frame.specs.Stored.EntryMeanings.AreGivenBy, frame.specs.Stored.EntryMeanings.replaced_of, frame.specs.Stored.EntryMeanings.last_declarations_of, frame.specs.Stored.Counts.HasMoreNames, frame.specs.Stored.Counts.HasRoom, frame.specs.Stored.Counts.kind_of, frame.specs.Stored.Counts.next_last_active, frame.specs.Stored.Counts.HasTwoSymbolsIfFloat, frame.specs.Stored.Ends.with_end, frame.specs.Stored.Ends.AreBlockEnds};
 
 use crate::at_position::last_active_at;
 use crate::shape::{has_label, kind};
@@ -12,8 +12,8 @@ use mm_read::Stmt;
 use scope::{SymbolNumbers, declare_names};
 use std::alloc::{AllocError, Global};
 
-/// There are fewer symbols than this. So a hypothesis fits in 32 bits: `number_of` of `entries` adds
-/// 2^31 for a `$e`.
+/// There are fewer symbols than this. So a hypothesis fits in 32 bits: `number_of` of `entries`
+/// adds 2^31 for a `$e`.
 const SYMBOL_NUMBERS_LIMIT: usize = 2147483648;
 
 /// Declares the names of the next statement, and appends its position if it has a label. Records
@@ -133,7 +133,7 @@ pub fn record_replaced(
 /// Records `at` as the last declaration of these symbols by statements of this kind.
 pub fn declare(symbols: &mut Vec<LastDeclarations>, kind: Kind, declared: &[u32], at: usize)
     requires { AreBelow (length symbols.old.items) declared.now }
-    ensures each { (c : ℕ) (x : Declarations) → slice_get symbols.old.items c ≡ Some x → slice_get symbols.new.items c ≡ Some (if list_any (λ y. c == y) declared.now then with_last kind at x else x) }
+    ensures each { AreDeclaredAt kind (λ c. at) declared.now symbols.old.items symbols.new.items }
     ensures count { length symbols.new.items ≡ length symbols.old.items }
 {
     for code in declared {
@@ -151,7 +151,8 @@ fn set_last(symbol: &mut LastDeclarations, kind: Kind, at: usize)
     }
 }
 
-/// Records `at` as the end of the block that opened at `block`, if a statement of this kind ends a block.
+/// Records `at` as the end of the block that opened at `block`, if a statement of this kind ends a
+/// block.
 pub fn record_end(ends: &mut Vec<u32>, kind: Kind, block: u32, at: u32)
     requires { block ≤ length ends.old.items }
     ensures { ends.new.items ≡ with_end kind block at ends.old.items }
@@ -161,8 +162,8 @@ pub fn record_end(ends: &mut Vec<u32>, kind: Kind, block: u32, at: u32)
     }
 }
 
-/// Removes the entries after the first `len`, the last one first, and with them their declarations and the recorded
-/// ends of blocks.
+/// Removes the entries after the first `len`, the last one first, and with them their declarations
+/// and the recorded ends of blocks.
 pub fn remove_entries(storage: &mut Storage, len: usize)
     requires stored { AreStored storage.old }
     requires within { len ≤ length storage.old.entries }
@@ -202,7 +203,7 @@ pub fn remove_entries(storage: &mut Storage, len: usize)
 fn restore(symbols: &mut Vec<LastDeclarations>, kind: Kind, declared: &[u32], replaced: &[usize])
     requires below { AreBelow (length symbols.old.items) declared.now }
     requires count { length replaced.now ≡ length declared.now }
-    ensures each { (x : ℕ → ℕ) → replaced.now ≡ map x declared.now → (c : ℕ) (y : Declarations) → slice_get symbols.old.items c ≡ Some y → slice_get symbols.new.items c ≡ Some (if list_any (λ k. c == k) declared.now then with_last kind (x c) y else y) }
+    ensures each { (x : ℕ → ℕ) → replaced.now ≡ map x declared.now → AreDeclaredAt kind x declared.now symbols.old.items symbols.new.items }
     ensures count { length symbols.new.items ≡ length symbols.old.items }
 {
     for (place, code) in declared.iter().enumerate() {

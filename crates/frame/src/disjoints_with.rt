@@ -10,8 +10,8 @@ use crate::storage::Storage;
 use entries::PositionStack;
 use std::marker::Model;
 
-/// The active `$d` that have a variable, from the last one back. Contracts see the list of symbols of
-/// each.
+/// The active `$d` that have a variable, from the last one back. Contracts see the list of symbols
+/// of each.
 #[derive(Drop)]
 pub struct DisjointsWith<'a> {
     storage: &'a Storage,
@@ -44,7 +44,8 @@ impl<'a> DisjointsWith<'a> {
         DisjointsWith { storage, stack }
     }
 
-    /// Removes the last `$d` that is left and returns its symbols, or returns `None` if none is left.
+    /// Removes the last `$d` that is left and returns its symbols, or returns `None` if none is
+    /// left.
     ///
     /// Cost: three look-ups.
     pub fn next(&mut self) -> Option<&'a [u32]>

@@ -41,7 +41,8 @@ impl EssentialSets {
         }
     }
 
-    /// Returns the number of the set that is kept with the statement at a position, or 0 if none is.
+    /// Returns the number of the set that is kept with the statement at a position, or 0 if none
+    /// is.
     pub fn set(&self, at: u32) -> u32
         ensures { result ≡ kept_set self.now.kept at }
     {
@@ -83,8 +84,9 @@ impl EssentialSets {
 
     /// Records the set of the last statement.
     ///
-    /// Errors: an allocation fails; the sets are as before. Cost: for a `$e` the number of its `$f`, times a logarithm, or
-    /// the size of the set if it is the first one; for another statement a constant.
+    /// Errors: an allocation fails; the sets are as before. Cost: for a `$e` the number of its
+    /// `$f`, times a logarithm, or the size of the set if it is the first one; for another
+    /// statement a constant.
     pub fn record_set(&mut self, storage: &Storage) -> Result<(), AllocError>
         requires stored { AreStored storage.now }
         requires sets { AreEssentialSets self.old storage.now.entries (statements_of storage.now) }
@@ -146,8 +148,8 @@ impl EssentialSets {
         self.sets.insert(set, last as u32 + 1)
     }
 
-    /// Makes the set of the hypotheses that the active `$e` after all statements bring along, and returns its number, or 0 if
-    /// they are few.
+    /// Makes the set of the hypotheses that the active `$e` after all statements bring along, and
+    /// returns its number, or 0 if they are few.
     fn collect(&mut self, storage: &Storage) -> Result<u32, AllocError>
         requires stored { AreStored storage.now }
         requires some { 1 ≤ length self.old.sets }

@@ -1,7 +1,8 @@
-//! Appends a statement to the storage as a whole or not at all, and truncates it to the first statements.
-ghost use Rattle.std.specs.Prelude.{true, ◌≡◌, ◌++◌, ◌∷◌, [], Some, OnOk, OnErr, take, length, slice_get, ◌+◌, IfSome, IfErr};
+//! Appends a statement to the storage as a whole or not at all, and truncates it to the first
+//! statements.
+ghost use Rattle.std.specs.Prelude.{true, ◌≡◌, ◌++◌, ◌∷◌, [], Some, OnOk, OnErr, take, length, ◌+◌, IfSome, IfErr};
 ghost use Rattle.frame.specs.Stored.EssentialSets.{AreFrames};
-ghost use Rattle.{names.specs.Codes.with_names, scope.specs.Active.bare, scope.specs.Legal.IsLegal, scope.specs.Legal.broken_rule, scope.specs.Stored.SymbolNumbers.AreRecorded, scope.specs.Symbols.AreVariableNumbers, scope.specs.Symbols.symbols_after, scope.specs.Symbols.symbols_declared_by, scope.specs.Symbols.symbols_in, scope.specs.Symbols.symbols_of, entries.specs.Entries.Entry, entries.specs.Histories.AreKeptUntil, entries.specs.Histories.AreSame, entries.specs.Stored.Spans.Extends, frame.specs.Stored.Whole.AreStored, frame.specs.Stored.Counts.HasMoreAtEnd, frame.specs.Stored.EntryMeanings.labels_in, frame.specs.Stored.EntryMeanings.names_in, frame.specs.Stored.EntryMeanings.statements_of};
+ghost use Rattle.{names.specs.Codes.with_names, scope.specs.Active.bare, scope.specs.Legal.IsLegal, scope.specs.Legal.broken_rule, scope.specs.Stored.SymbolNumbers.AreRecorded, scope.specs.Symbols.symbols_declared_by, scope.specs.Symbols.symbols_in, scope.specs.Symbols.symbols_of, entries.specs.Histories.AreKeptUntil, entries.specs.Histories.AreSame, entries.specs.Stored.Spans.Extends, frame.specs.Stored.Whole.AreStored, frame.specs.Stored.Counts.HasMoreAtEnd, frame.specs.Stored.EntryMeanings.HasVariableNumbers, frame.specs.Stored.EntryMeanings.labels_in, frame.specs.Stored.EntryMeanings.names_in, frame.specs.Stored.EntryMeanings.statements_of};
 
 use crate::assertion_parts::fill_parts;
 use crate::declare::{
@@ -36,7 +37,7 @@ fn extend(
     requires recorded { AreRecorded (with_names (names_in storage.old) (symbols_declared_by stmt.now)) (symbols_in stmt.now) recorded.old }
     ensures stored { OnOk result (AreStored storage.new) }
     ensures added { OnOk result (statements_of storage.new ≡ statements_of storage.old ++ bare stmt.now ∷ []) }
-    ensures numbers { OnOk result ((e : Entry) → slice_get storage.new.entries (length storage.old.entries) ≡ Some e → AreVariableNumbers (symbols_after (statements_of storage.old) stmt.now) stmt.now e.symbols) }
+    ensures numbers { OnOk result (HasVariableNumbers storage.old stmt.now storage.new) }
     ensures more { OnOk result (Extends storage.old.entries storage.new.entries) }
     ensures after { OnErr result (HasMoreAtEnd storage.old storage.new) }
 {
@@ -97,7 +98,7 @@ fn extend_whole(
     requires recorded { AreRecorded (with_names (names_in storage.old) (symbols_declared_by stmt.now)) (symbols_in stmt.now) recorded.old }
     ensures stored { AreStored storage.new }
     ensures added { OnOk result (statements_of storage.new ≡ statements_of storage.old ++ bare stmt.now ∷ []) }
-    ensures numbers { OnOk result ((e : Entry) → slice_get storage.new.entries (length storage.old.entries) ≡ Some e → AreVariableNumbers (symbols_after (statements_of storage.old) stmt.now) stmt.now e.symbols) }
+    ensures numbers { OnOk result (HasVariableNumbers storage.old stmt.now storage.new) }
     ensures same { OnErr result (statements_of storage.new ≡ statements_of storage.old) }
     ensures more { OnOk result (Extends storage.old.entries storage.new.entries) }
     ensures same_entries { OnErr result (storage.new.entries ≡ storage.old.entries) }
@@ -127,7 +128,7 @@ fn extend_with_sets(
     requires recorded { AreRecorded (with_names (names_in storage.old) (symbols_declared_by stmt.now)) (symbols_in stmt.now) recorded.old }
     ensures kept { AreFrames storage.new essential_sets.new }
     ensures added { OnOk result (statements_of storage.new ≡ statements_of storage.old ++ bare stmt.now ∷ []) }
-    ensures numbers { OnOk result ((e : Entry) → slice_get storage.new.entries (length storage.old.entries) ≡ Some e → AreVariableNumbers (symbols_after (statements_of storage.old) stmt.now) stmt.now e.symbols) }
+    ensures numbers { OnOk result (HasVariableNumbers storage.old stmt.now storage.new) }
     ensures same { OnErr result (statements_of storage.new ≡ statements_of storage.old) }
 {
     let front = storage.entries.len();

@@ -20,8 +20,9 @@ pub struct FactKey {
     pub y: u32,
 }
 
-/// A hash table of the indexes of facts, with `PROBES` slots for each hash. An index in it is only a guess: it may be that
-/// of another fact, so the list of facts is always checked, and contracts see nothing of the table.
+/// A hash table of the indexes of facts, with `PROBES` slots for each hash. An index in it is only
+/// a guess: it may be that of another fact, so the list of facts is always checked, and contracts
+/// see nothing of the table.
 #[derive(Drop)]
 pub struct FactSlots {
     /// The index of a fact plus 1, or 0 in an empty slot. Their number is a power of two, or 0.
@@ -65,7 +66,8 @@ impl FactSlots {
         }
     }
 
-    /// Returns the index of the slot with number `probe`, from 0, among those that belong to a hash.
+    /// Returns the index of the slot with number `probe`, from 0, among those that belong to a
+    /// hash.
     #[inline(always)]
     fn slot(&self, hash: usize, probe: usize) -> usize {
         let last = self.slots.len().saturating_sub(1);
@@ -118,7 +120,8 @@ impl FactSlots {
         self.crowded.clear();
     }
 
-    /// Empties the table, and makes it twice as large. If an allocation fails, the table has no slots.
+    /// Empties the table, and makes it twice as large. If an allocation fails, the table has no
+    /// slots.
     pub(crate) fn grow(&mut self) {
         let count = self.slots.len().saturating_mul(2).max(MIN_SLOTS);
         self.crowded.clear();

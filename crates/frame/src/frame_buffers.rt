@@ -15,7 +15,8 @@ use std::marker::Model;
 /// `entries`).
 #[derive(Drop)]
 pub struct FrameBuffers {
-    /// Whether the parts are whole, as `AssertionParts` says; not set if the groups are made pair by pair.
+    /// Whether the parts are whole, as `AssertionParts` says; not set if the groups are made pair
+    /// by pair.
     pub(crate) whole: bool,
     /// The symbols whose `$f` were looked up; later the variables of the hypotheses. A buffer only:
     /// contracts do not see it.
@@ -38,7 +39,13 @@ impl Model for FrameBuffers {
 
     ghost Value = { Assertion };
 
-    ghost view = { λ a. record { whole = a.whole; hypotheses = a.hypotheses.items; numbered_hypotheses = map decoded_hypothesis a.numbered_hypotheses.items; typecodes = a.typecodes.items; groups = cut a.grouped_variables.items a.groups.items } };
+    ghost view = { λ a. record {
+      whole = a.whole;
+      hypotheses = a.hypotheses.items;
+      numbered_hypotheses = map decoded_hypothesis a.numbered_hypotheses.items;
+      typecodes = a.typecodes.items;
+      groups = cut a.grouped_variables.items a.groups.items;
+    } };
 
     ghost invariant = { λ a. AreSpansIn (length a.grouped_variables.items) a.groups.items };
 }

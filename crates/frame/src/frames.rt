@@ -1,6 +1,6 @@
 //! The statements of a database by position.
 ghost use Rattle.std.specs.Prelude.{◌≡◌, ◌≤◌, ◌<◌, [], true, IfOk, length, Some, option_map, OnOk, IfSome};
-ghost use Rattle.{mm_read.specs.declared.stmt.Stmt.Stmt as Statement, names.specs.Codes.name_at, names.specs.Codes.decode, scope.specs.Active.before, scope.specs.Active.stmt_at, scope.specs.Active.label_of, scope.specs.Active.expr_of, frame.specs.AtPosition.IsPosition, frame.specs.AtPosition.ArePositions, frame.specs.AtPosition.HasLegalProperties, frame.specs.AtPosition.IsMeaning, frame.specs.FrameOf.HasAssertion, frame.specs.FrameOf.hypotheses, frame.specs.AssertionView.AreBuffersOf, frame.specs.AssertionView.AreCitingLists, frame.specs.AssertionView.IsCitingView, frame.specs.AssertionView.IsViewOf, frame.specs.PairFacts.AreFacts, frame.specs.ExprPlaces.AreExprPlaces, frame.specs.Below.AreBelow, frame.specs.LongEssentials.HasConstants, frame.specs.LongEssentials.long_essentials, scope.specs.Active.is_essential};
+ghost use Rattle.{mm_read.specs.declared.stmt.Stmt.Stmt as Statement, names.specs.Codes.name_at, names.specs.Codes.decode, scope.specs.Active.before, scope.specs.Active.stmt_at, scope.specs.Active.label_of, scope.specs.Active.expr_of, frame.specs.AtPosition.IsPosition, frame.specs.AtPosition.ArePositions, frame.specs.AtPosition.HasLegalProperties, frame.specs.AtPosition.IsMeaning, frame.specs.FrameOf.HasAssertion, frame.specs.FrameOf.hypotheses, frame.specs.AssertionView.AreBuffersOf, frame.specs.AssertionView.AreCitingLists, frame.specs.AssertionView.IsCitingView, frame.specs.AssertionView.IsViewOf, frame.specs.PairFacts.AreFacts, frame.specs.ExprPlaces.AreExprPlaces, frame.specs.Below.AreBelow, frame.specs.LongEssentials.HasConstantsAt, frame.specs.LongEssentials.long_essentials, scope.specs.Active.is_essential};
 
 use crate::assertion_parts::fill_from_hypotheses;
 use crate::at_position::{is_active_at, last_active_at};
@@ -38,8 +38,8 @@ pub struct Frames {
     pub(crate) alloc: Global,
     /// The statements.
     pub(crate) storage: Storage,
-    /// For a `$e`, the set of the mandatory hypotheses that the active `$e` up to it bring along, if
-    /// they are many.
+    /// For a `$e`, the set of the mandatory hypotheses that the active `$e` up to it bring along,
+    /// if they are many.
     pub(crate) essential_sets: EssentialSets,
     /// Facts about pairs of variables, which stay true as statements are added.
     pub(crate) kept_facts: KeptFacts,
@@ -156,7 +156,7 @@ impl Frames {
     pub fn places(&self, at: usize) -> Option<&SymbolPlaces>
         requires { (1 ≤ at) × (at ≤ length self.now.statements) }
         ensures places { (s : Statement) → stmt_at self.now.statements at ≡ Some s → IfSome result (λ places. AreExprPlaces self.now.names (expr_of s) places.now) }
-        ensures constants { (s : Statement) → stmt_at self.now.statements at ≡ Some s → is_essential s ≡ true → IfSome result (λ places. HasConstants (before self.now.statements at) self.now.names (expr_of s) places.now.constants) }
+        ensures constants { (s : Statement) → stmt_at self.now.statements at ≡ Some s → is_essential s ≡ true → IfSome result (λ places. HasConstantsAt self.now at s places.now) }
     {
         let entry = self.storage.entries.entry(at - 1);
         if has_label(entry.kind) {
@@ -314,8 +314,8 @@ impl Frames {
     /// Appends the positions of the mandatory hypotheses of the assertion at a position, in order,
     /// to an empty list.
     ///
-    /// Errors: an allocation fails. Cost: their number, if all are kept with the assertion; else n log
-    /// n for n of them, or a walk over the active `$e` if these bring along few.
+    /// Errors: an allocation fails. Cost: their number, if all are kept with the assertion; else n
+    /// log n for n of them, or a walk over the active `$e` if these bring along few.
     pub fn mandatory(&self, a: usize, list: &mut Vec<u32>) -> Result<(), AllocError>
         requires assertion { (s : Statement) × HasAssertion self.now.statements a s }
         requires empty { list.old.items ≡ [] }
@@ -331,10 +331,12 @@ impl Frames {
         }
     }
 
-    /// Returns the mandatory hypotheses of the assertion at a position without a list of all of them, or `None` if the active
-    /// `$e` bring along at most 64 of them or the parts of the assertion are kept whole.
+    /// Returns the mandatory hypotheses of the assertion at a position without a list of all of
+    /// them, or `None` if the active `$e` bring along at most 64 of them or the parts of the
+    /// assertion are kept whole.
     ///
-    /// Errors: an allocation fails. Cost: the `$f` of the assertion's own variables, times a logarithm.
+    /// Errors: an allocation fails. Cost: the `$f` of the assertion's own variables, times a
+    /// logarithm.
     pub fn mandatory_view(&self, a: usize) -> Result<Option<MandatoryView<'_>>, AllocError>
         requires { (s : Statement) × HasAssertion self.now.statements a s }
         ensures { (s : Statement) → stmt_at self.now.statements a ≡ Some s → IfOk result (λ view. IfSome view (λ list. list ≡ hypotheses (before self.now.statements a) s)) }

@@ -1,4 +1,5 @@
-//! Keeps the answers of long searches for pairs of disjoint variables with the statements of a database.
+//! Keeps the answers of long searches for pairs of disjoint variables with the statements of a
+//! database.
 ghost use Rattle.frame.specs.Stored.EntryMeanings.{statements_of};
 ghost use Rattle.frame.specs.Stored.KeptFacts.{AreKeptFacts};
 ghost use Rattle.frame.specs.Stored.PairSearch.{AreSearched};
@@ -30,7 +31,8 @@ impl KeptFacts {
         }
     }
 
-    /// Discards the facts if they are about more than the first `len` statements; the others are about to be removed.
+    /// Discards the facts if they are about more than the first `len` statements; the others are
+    /// about to be removed.
     ///
     /// Cost: a constant; if the facts are discarded, their number.
     pub(crate) fn truncate(&mut self, len: usize)

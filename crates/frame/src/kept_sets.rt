@@ -83,7 +83,8 @@ impl KeptSets {
         Ok(())
     }
 
-    /// Truncates to the sets of the first `len` statements, and returns the first one removed. Does not allocate.
+    /// Truncates to the sets of the first `len` statements, and returns the first one removed. Does
+    /// not allocate.
     pub fn truncate(&mut self, len: usize) -> Option<KeptSet>
         ensures { IsCutBy index_of len self.old self.new result }
     {

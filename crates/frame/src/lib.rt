@@ -8,10 +8,11 @@
 //! counts from 1, an index from 0.
 //!
 //! Reading order: `storage`, `stored_entries`, `shape`, `frame_buffers`; `symbol_numbers`,
-//! `at_position`, `stacks`, `declare`, `mandatory`, `kept_sets`, `essential_sets`, `assertion_parts`, `extend`
-//! (appending and truncating); `meaning`, `frames`, `mandatory_view`, `disjoints_with`, `long_searches`,
-//! `pair_memo`, `fact_slots`, `pair_facts`, `kept_facts`, `repeated_searches`, `pairs`,
-//! `active_disjoint`, `citing_lists` (queries); `assertion`, `one_frame`; `laws`.
+//! `at_position`, `stacks`, `declare`, `mandatory`, `kept_sets`, `essential_sets`,
+//! `assertion_parts`, `extend` (appending and truncating); `meaning`, `frames`, `mandatory_view`,
+//! `disjoints_with`, `long_searches`, `pair_memo`, `fact_slots`, `pair_facts`, `kept_facts`,
+//! `repeated_searches`, `pairs`, `active_disjoint`, `citing_lists` (queries); `assertion`,
+//! `one_frame`; `laws`.
 #![tactic(auto)]
 
 mod active_disjoint;

@@ -1,4 +1,5 @@
-//! Lists long searches for pairs of variables, so that they can be made again and their answers kept with the statements.
+//! Lists long searches for pairs of variables, so that they can be made again and their answers
+//! kept with the statements.
 
 use std::alloc::Global;
 
@@ -17,8 +18,8 @@ pub struct LongSearch {
     pub y: u32,
 }
 
-/// At most 64 long searches, in the order in which they were made. They only say for which pairs to search again, so
-/// contracts see nothing of them.
+/// At most 64 long searches, in the order in which they were made. They only say for which pairs to
+/// search again, so contracts see nothing of them.
 #[derive(Drop)]
 pub struct LongSearches {
     list: Vec<LongSearch>,

@@ -9,8 +9,8 @@ use std::marker::Model;
 
 /// The mandatory hypotheses of an assertion by position, in order, without a list of all of them.
 ///
-/// Contracts see the list of the positions. It is kept as the set that the active `$e` bring along, and the `$f` of the
-/// assertion's own variables that are not in the set.
+/// Contracts see the list of the positions. It is kept as the set that the active `$e` bring along,
+/// and the `$f` of the assertion's own variables that are not in the set.
 #[derive(Drop)]
 pub struct MandatoryView<'a> {
     /// All sets of the frames.

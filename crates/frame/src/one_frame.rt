@@ -12,7 +12,8 @@ use std::alloc::{AllocError, Global};
 
 /// Returns the frame of an assertion after the statements of the scope.
 ///
-/// Errors: an allocation fails. Cost: the size of the assertion and of the active `$f`, `$e` and `$d`.
+/// Errors: an allocation fails. Cost: the size of the assertion and of the active `$f`, `$e` and
+/// `$d`.
 /// Source: Metamath, 4.2.7.
 pub fn frame(alloc: Global, scope: &Scope, stmt: &Stmt) -> Result<Frame, AllocError>
     requires assertion { IsTrue (is_assertion stmt.now) }

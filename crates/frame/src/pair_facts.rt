@@ -21,12 +21,12 @@ const MAX_FACTS: usize = 262_144;
 /// more is long.
 const MAX_UNRECORDED: usize = 16;
 
-/// The largest number of `$d` that a search passes without being listed. `repeat_searches` makes the listed searches again, and
-/// their answers are kept with the statements.
+/// The largest number of `$d` that a search passes without being listed. `repeat_searches` makes
+/// the listed searches again, and their answers are kept with the statements.
 pub(crate) const MAX_UNLISTED: usize = 256;
 
-/// After its first `MAX_UNRECORDED` `$d`, a search looks up a fact at each `$d` that has a multiple of
-/// this many `$d` left, itself included.
+/// After its first `MAX_UNRECORDED` `$d`, a search looks up a fact at each `$d` that has a multiple
+/// of this many `$d` left, itself included.
 const STRIDE: usize = 64;
 
 /// A fact: whether two variables both occur in a `$d` that is active right after the `$d` at a
@@ -103,7 +103,8 @@ impl PairFacts {
 
     /// Returns the fact that is recorded for a position and two variables, if there is one.
     ///
-    /// Cost: a constant; if all slots of the fact are taken by others, log n for n facts that are in no slot.
+    /// Cost: a constant; if all slots of the fact are taken by others, log n for n facts that are
+    /// in no slot.
     #[inline(always)]
     pub(crate) fn known(&self, position: u32, x: u32, y: u32) -> Option<PairFact>
         ensures fact { (v : Numbered) → AreFacts v self.now → IfSome result (IsFact v) }
@@ -153,7 +154,8 @@ impl PairFacts {
         }
     }
 
-    /// Records the index of the last fact in the slots, which grow if more than half of them would be filled.
+    /// Records the index of the last fact in the slots, which grow if more than half of them would
+    /// be filled.
     ///
     /// Cost: a constant; if the slots grow, the number of facts.
     fn record_last(&mut self)
@@ -230,8 +232,8 @@ fn key(fact: PairFact) -> FactKey {
     }
 }
 
-/// Two variables that are sought in an active `$d`, and how many active `$d` have each. The counts only say whose `$d` to
-/// go through, so they may be wrong.
+/// Two variables that are sought in an active `$d`, and how many active `$d` have each. The counts
+/// only say whose `$d` to go through, so they may be wrong.
 #[derive(Clone, Copy, Drop)]
 pub struct SoughtPair {
     pub x: u32,
@@ -240,12 +242,13 @@ pub struct SoughtPair {
     pub count_y: usize,
 }
 
-/// Returns whether two variables are disjoint at a position, by the facts of earlier searches and those that are kept with
-/// the statements, and records the answer as facts if the search is long.
+/// Returns whether two variables are disjoint at a position, by the facts of earlier searches and
+/// those that are kept with the statements, and records the answer as facts if the search is long.
 ///
-/// Cost: the smaller of the counts of active `$d` that have x and that have y, times a binary search. If an earlier search
-/// for this pair through the `$d` of the same variable began at the same `$d` or an earlier one, and its facts are
-/// recorded: only the `$d` after the one at which it began, and at most 64 more.
+/// Cost: the smaller of the counts of active `$d` that have x and that have y, times a binary
+/// search. If an earlier search for this pair through the `$d` of the same variable began at the
+/// same `$d` or an earlier one, and its facts are recorded: only the `$d` after the one at which it
+/// began, and at most 64 more.
 pub fn search_by_facts(
     storage: &Storage,
     kept: &PairFacts,
@@ -272,13 +275,14 @@ pub fn search_by_facts(
     }
 }
 
-/// Returns whether the `$d` of x are searched, not those of y, given how many each has. The choice does
-/// not depend on the order of the two.
+/// Returns whether the `$d` of x are searched, not those of y, given how many each has. The choice
+/// does not depend on the order of the two.
 pub(crate) fn searches_x(count_x: usize, count_y: usize, x: u32, y: u32) -> bool {
     count_x < count_y || (count_x == count_y && x <= y)
 }
 
-/// Returns whether two variables are disjoint at a position, by going through the `$d` that have the first.
+/// Returns whether two variables are disjoint at a position, by going through the `$d` that have
+/// the first.
 pub(crate) fn search_disjoints_with(
     storage: &Storage,
     kept: &PairFacts,
@@ -312,7 +316,8 @@ pub struct SearchEnd {
     pub found: bool,
 }
 
-/// Goes through the `$d` that have x until one also has y, or a fact says whether one of those that are left does.
+/// Goes through the `$d` that have x until one also has y, or a fact says whether one of those that
+/// are left does.
 fn walk(
     storage: &Storage,
     kept: &PairFacts,
@@ -352,7 +357,8 @@ fn walk(
     }
 }
 
-/// Returns the fact that is recorded for a position and two variables in one of two tables, if there is one.
+/// Returns the fact that is recorded for a position and two variables in one of two tables, if
+/// there is one.
 fn known_in(
     facts: &PairFacts,
     others: &PairFacts,
@@ -401,15 +407,16 @@ fn record_passed(
     }
 }
 
-/// Returns whether a search looks up a fact at a `$d`, given how many `$d` it counts as passed, and with `below` more to go
-/// after this one. No fact is recorded at the last `MAX_UNRECORDED` ones.
+/// Returns whether a search looks up a fact at a `$d`, given how many `$d` it counts as passed, and
+/// with `below` more to go after this one. No fact is recorded at the last `MAX_UNRECORDED` ones.
 pub(crate) fn is_looked_up(passed: usize, below: usize) -> bool {
     below >= MAX_UNRECORDED && (passed < MAX_UNRECORDED || below % STRIDE == STRIDE - 1)
 }
 
-/// Returns whether a long search that began with `top` `$d` to go records its answer at the `$d` with `height` to go,
-/// itself included: at its first one, and at the first one with a multiple of 64, of 128, of 256 and so on to go. So it
-/// records few facts, and a later search that begins at a somewhat later position usually meets one of them soon.
+/// Returns whether a long search that began with `top` `$d` to go records its answer at the `$d`
+/// with `height` to go, itself included: at its first one, and at the first one with a multiple of
+/// 64, of 128, of 256 and so on to go. So it records few facts, and a later search that begins at a
+/// somewhat later position usually meets one of them soon.
 fn is_recorded(top: usize, height: usize) -> bool {
     let multiple = height & !height.saturating_sub(1);
     height == top || (height % STRIDE == 0 && top.saturating_sub(height) < multiple)

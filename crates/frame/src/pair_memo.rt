@@ -49,7 +49,8 @@ impl PairMemo {
         }
     }
 
-    /// Records the position of a `$d` that has both variables, unless an allocation fails. A full memo is cleared first.
+    /// Records the position of a `$d` that has both variables, unless an allocation fails. A full
+    /// memo is cleared first.
     fn record(&mut self, x: u32, y: u32, position: u32) {
         if self.found.len() >= MAX_PAIRS {
             self.found.clear();
@@ -70,8 +71,8 @@ fn key(x: u32, y: u32) -> u64 {
     (x.min(y) as u64) << 32 | x.max(y) as u64
 }
 
-/// Returns whether two variables are disjoint, given the `$d` that remain to be searched, all of which
-/// have the first variable.
+/// Returns whether two variables are disjoint, given the `$d` that remain to be searched, all of
+/// which have the first variable.
 ///
 /// Cost: the number of these `$d`, times a binary search; less in two cases. If the memo has an
 /// active `$d` for the pair, the first `MAX_BEFORE_MEMO` of them, and log n for n pairs in the
@@ -100,7 +101,8 @@ pub fn search(
     search_on(storage, facts, at, memo, remaining, x, y)
 }
 
-/// Continues a search after its first `MAX_BEFORE_MEMO` `$d`: first by the memo, then through the other `$d`.
+/// Continues a search after its first `MAX_BEFORE_MEMO` `$d`: first by the memo, then through the
+/// other `$d`.
 #[cold]
 #[inline(never)]
 fn search_on(
@@ -140,7 +142,8 @@ fn search_on(
     false
 }
 
-/// Returns whether the statement at a position is a `$d` that is active at `at` and has both variables.
+/// Returns whether the statement at a position is a `$d` that is active at `at` and has both
+/// variables.
 ///
 /// Cost: two look-ups, and a binary search for each variable.
 fn has_both(storage: &Storage, at: usize, position: u32, x: u32, y: u32) -> bool

@@ -1,6 +1,6 @@
 //! The disjoint variables at a position.
-ghost use Rattle.std.specs.Prelude.{◌≡◌, ◌==◌, ◌&&◌, ◌||◌, ◌<◌, ℕ, not, false, length, IfNone, IfSome};
-ghost use Rattle.{std.specs.List.list_any, mm_lex.specs.Alphabet.Name, names.specs.Codes.name_at, names.specs.Codes.code_of, scope.specs.Active.is_variable, frame.specs.Below.AllBelow, frame.specs.Below.AreBelow, frame.specs.FrameOf.is_pair, frame.specs.LastActive.is_disj, frame.specs.ListsOfPairs.AreListsOfPairs, frame.specs.Stored.EntryMeanings.statements_of, frame.specs.Stored.Stacks.AreOfKind, frame.specs.Stored.Stacks.IsOfKind, frame.specs.Stored.Stacks.has_code, frame.specs.Stored.Whole.AreStored};
+ghost use Rattle.std.specs.Prelude.{◌≡◌, ◌==◌, ◌&&◌, ◌<◌, ℕ, not, false, length, IfNone, IfSome};
+ghost use Rattle.{std.specs.List.list_any, mm_lex.specs.Alphabet.Name, names.specs.Codes.name_at, names.specs.Codes.code_of, scope.specs.Active.is_variable, frame.specs.Below.AllBelow, frame.specs.Below.AreBelow, frame.specs.FrameOf.is_pair, frame.specs.LastActive.is_disj, frame.specs.ListsOfPairs.AreListsOfPairs, frame.specs.ListsOfPairs.ArePairsWith, frame.specs.ListsOfPairs.is_numbered_pair, frame.specs.Stored.EntryMeanings.statements_of, frame.specs.Stored.Stacks.AreOfKind, frame.specs.Stored.Stacks.IsOfKind, frame.specs.Stored.Stacks.has_code, frame.specs.Stored.Whole.AreStored};
 
 use crate::at_position::last_active_at;
 use crate::disjoints_with::DisjointsWith;
@@ -32,7 +32,11 @@ impl<'a> Model for Pairs<'a> {
 
     ghost view = { λ a. record { statements = before (statements_of a.storage.now) a.at; names = names_in a.storage.now } };
 
-    ghost invariant = { λ a. AreStored a.storage.now × AreDistinct (names_in a.storage.now) × (1 ≤ a.at) × (a.at ≤ length (statements_of a.storage.now)) × AreFacts (numbered a.storage.now) a.facts.now };
+    ghost invariant = { λ a. AreStored a.storage.now
+        × AreDistinct (names_in a.storage.now)
+        × (1 ≤ a.at)
+        × (a.at ≤ length (statements_of a.storage.now))
+        × AreFacts (numbered a.storage.now) a.facts.now };
 }
 
 impl<'a> Pairs<'a> {
@@ -42,7 +46,7 @@ impl<'a> Pairs<'a> {
     /// times a binary search.
     pub fn has(&self, x: u32, y: u32) -> bool
         requires { (x < length self.now.names) × (y < length self.now.names) }
-        ensures { result ≡ is_pair self.now.statements (name_at self.now.names x) (name_at self.now.names y) }
+        ensures { result ≡ is_numbered_pair self.now x y }
     {
         if x == y {
             return false;
@@ -64,7 +68,7 @@ impl<'a> Pairs<'a> {
     /// frames keep tells the answer, only the `$d` before the one at which that fact is met.
     pub fn has_by_memo(&self, memo: &mut PairMemo, x: u32, y: u32) -> bool
         requires { (x < length self.now.names) × (y < length self.now.names) }
-        ensures { result ≡ is_pair self.now.statements (name_at self.now.names x) (name_at self.now.names y) }
+        ensures { result ≡ is_numbered_pair self.now x y }
     {
         if x == y {
             return false;
@@ -83,7 +87,7 @@ impl<'a> Pairs<'a> {
     /// Cost: a binary search.
     pub fn disjoints_with(&self, x: u32) -> DisjointsWith<'a>
         requires { x < length self.now.names }
-        ensures pairs { (y : ℕ) → y < length self.now.names → is_pair self.now.statements (name_at self.now.names x) (name_at self.now.names y) ≡ (not (x == y) && list_any (λ list. list_any (λ c. y == c) list) result) }
+        ensures pairs { (y : ℕ) → y < length self.now.names → is_numbered_pair self.now x y ≡ (not (x == y) && list_any (λ list. list_any (λ c. y == c) list) result) }
         ensures together { AreListsOfPairs self.now result }
         ensures below { AllBelow (length self.now.names) result }
     {
@@ -106,7 +110,7 @@ impl<'a> Pairs<'a> {
         ensures names { self.new.names ≡ self.old.names }
         ensures fewer { IfSome result (λ list. length self.new.statements < length self.old.statements) }
         ensures below { IfSome result (λ list. AreBelow (length self.new.names) list.now) }
-        ensures pairs { IfSome result (λ list. (x y : ℕ) → x < length self.old.names → y < length self.old.names → is_pair self.old.statements (name_at self.old.names x) (name_at self.old.names y) ≡ (not (x == y) && (list_any (λ c. x == c) list.now && list_any (λ c. y == c) list.now) || is_pair self.new.statements (name_at self.old.names x) (name_at self.old.names y))) }
+        ensures pairs { IfSome result (λ list. ArePairsWith self.old list.now self.new.statements) }
         ensures none { IfNone result ((x y : Name) → is_pair self.old.statements x y ≡ false) }
     {
         let last = last_active_at(self.storage, self.at).disjoint as usize;

@@ -1,4 +1,5 @@
-//! Makes long searches for pairs of disjoint variables again, so that their answers are kept with the statements.
+//! Makes long searches for pairs of disjoint variables again, so that their answers are kept with
+//! the statements.
 ghost use Rattle.std.specs.Prelude.{◌≡◌};
 
 use crate::frames::Frames;

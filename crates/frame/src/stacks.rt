@@ -24,12 +24,13 @@ pub struct NextStatement<'a> {
     pub last_active: LastActive,
 }
 
-/// Pushes the next statement onto the stacks of its symbols if it is a `$d`, a `$v` or a long `$e`; if it is a `$}`,
-/// restores the stacks to what they were at its `${`.
+/// Pushes the next statement onto the stacks of its symbols if it is a `$d`, a `$v` or a long `$e`;
+/// if it is a `$}`, restores the stacks to what they were at its `${`.
 ///
-/// Errors: an allocation fails; the stacks at earlier positions are then the same. Cost: the symbols of a `$d`, `$v` or
-/// long `$e`; for a `$}` those of the `$d`, `$v` and long `$e` that it makes inactive, for each of these symbols a binary
-/// search, and a constant for each short `$e` that it makes inactive.
+/// Errors: an allocation fails; the stacks at earlier positions are then the same. Cost: the
+/// symbols of a `$d`, `$v` or long `$e`; for a `$}` those of the `$d`, `$v` and long `$e` that it
+/// makes inactive, for each of these symbols a binary search, and a constant for each short `$e`
+/// that it makes inactive.
 #[inline(always)]
 pub fn record_active(
     disjoints: &mut Histories,
@@ -97,8 +98,8 @@ fn codes_of_kind(codes: &[u32], stack_kind: Kind) -> &[u32]
     }
 }
 
-/// Restores the stack of each symbol of the active statements of a kind in the innermost open block to what it was when
-/// that block opened.
+/// Restores the stack of each symbol of the active statements of a kind in the innermost open block
+/// to what it was when that block opened.
 fn revert_all(
     histories: &mut Histories,
     entries: &Entries,

@@ -25,7 +25,8 @@ pub struct Storage {
     pub symbols: Vec<LastDeclarations>,
     /// The positions that each `$f`, and each symbol of each `$v`, replaced in `symbols`, in order.
     pub replaced: Vec<usize>,
-    /// For each `${` the position of its `$}`, or 0 while its block is open; for another statement 0.
+    /// For each `${` the position of its `$}`, or 0 while its block is open; for another statement
+    /// 0.
     pub ends: Vec<u32>,
     /// The statements.
     pub entries: StoredEntries,
@@ -33,7 +34,8 @@ pub struct Storage {
     pub disjoints: Histories,
     /// For each symbol, by its number, the active `$v` that have it, at each position.
     pub variables: Histories,
-    /// For each symbol, by its number, the active `$e` of `LONG_EXPRESSION` symbols or more that have it, at each position.
+    /// For each symbol, by its number, the active `$e` of `LONG_EXPRESSION` symbols or more that
+    /// have it, at each position.
     pub essentials: Histories,
     /// The last active statement of each kind after all statements.
     pub last_active: LastActive,

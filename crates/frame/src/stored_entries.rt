@@ -1,7 +1,8 @@
 //! The statements as numbers, with the places of the symbols of long expressions.
 ghost use Rattle.std.specs.Prelude.{◌≡◌, ◌≤◌, ◌<◌, ◌+◌, ◌^◌, ◌++◌, ◌∷◌, [], length, take, slice_get, Some, OnOk, OnErr, IfNone, IfSome, false};
 ghost use Rattle.entries.specs.Entries.{AreShapedParts, IsWholeView, Entry, IsEntry, assertion_of, entry_by};
-ghost use Rattle.entries.specs.SymbolPlaces.{ArePlacesOf, without_float};
+ghost use Rattle.entries.specs.SymbolPlaces.{ArePlacesOf};
+ghost use Rattle.frame.specs.Stored.LongExpressions.{HasConstantsOf};
 
 use entries::{
     AssertionParts, AssertionView, Entries, EntryHeader, EntryRef, Hypotheses, Kind,
@@ -14,7 +15,8 @@ use std::marker::Model;
 /// kept.
 pub const LONG_EXPRESSION: usize = 128;
 
-/// The statements as numbers, with the places of the symbols of long expressions. Contracts see the list of the statements.
+/// The statements as numbers, with the places of the symbols of long expressions. Contracts see the
+/// list of the statements.
 #[derive(Drop)]
 pub struct StoredEntries {
     /// The statements as numbers.
@@ -108,7 +110,7 @@ impl StoredEntries {
     /// Cost: log n for n long expressions.
     pub fn places(&self, index: usize) -> Option<&SymbolPlaces>
         ensures places { (e : Entry) → slice_get self.now index ≡ Some e → IfSome result (λ places. ArePlacesOf e.symbols places.now) }
-        ensures constants { (e : Entry) → slice_get self.now index ≡ Some e → IfSome result (λ places. places.now.constants ≡ without_float e.assertion.numbered_hypotheses places.now.symbols) }
+        ensures constants { (e : Entry) → slice_get self.now index ≡ Some e → IfSome result (λ places. HasConstantsOf e places.now) }
     {
         self.long.get(index)
     }

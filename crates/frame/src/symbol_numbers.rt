@@ -53,8 +53,8 @@ fn record_list(numbering: &Numbering, words: &Words, recorded: &mut SymbolNumber
     }
 }
 
-/// Records the numbers of the symbols of a statement, if they are not recorded yet. The symbols that it declares have no
-/// numbers yet.
+/// Records the numbers of the symbols of a statement, if they are not recorded yet. The symbols
+/// that it declares have no numbers yet.
 pub fn find_numbers(numbering: &Numbering, stmt: &Stmt, recorded: &mut SymbolNumbers)
     requires { AreRecorded (with_names (declared_symbols numbering.now) (symbols_declared_by stmt.now)) (symbols_in stmt.now) recorded.old }
     ensures { AreRecorded (with_names (declared_symbols numbering.now) (symbols_declared_by stmt.now)) (symbols_in stmt.now) recorded.new }

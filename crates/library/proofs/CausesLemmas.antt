@@ -37,7 +37,8 @@ module _ (L : Database) (charter : Option (List ℕ)) (submission : Submission) 
   IsVerdict (Refused cause) = IsCause L charter submission cause
   IsVerdict verdict = ⊥
 
-  -- the verdict on a text that reads as T, by the number of its first forbidden statement, if there is one
+  -- the verdict on a text that reads as T, by the number of its first forbidden statement, if there
+  -- is one
   abbrev Late : Database → Option ℕ → Verdict → Type 0
   Late T (Some n) verdict = verdict ≡ Refused (NotChartered n)
   Late T None Added = Good (L ++ T)

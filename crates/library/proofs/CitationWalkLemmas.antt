@@ -1,4 +1,5 @@
--- A proof cites earlier statements only; a walk towards the first position marks the statements that citations lead to.
+-- A proof cites earlier statements only; a walk towards the first position marks the statements
+-- that citations lead to.
 use Rattle.library.proofs.Words.{◌≡◌, ◌↔◌, ◌⊎◌, ℕ, zero, suc, ◌-◌, ◌<◌, ◌≤◌, Bool, true, false, List, [], ◌∷◌, ◌++◌, length, get_or, Some, option_map, slice_get, slice_set, replicate, refl, sym, ◌∙◌, ap, subst, arith, inl, inr, cases_eq, get_or_default, Name, Stmt, Database, bare, bares, stmt_at, label_of, proof_of, stmt_at-bares, Carries, HasLabelsOnce, Item, Cite, Recall, Mark, one_list, Derivation, Derivations, Spells, SpellsAll, cites_hypothesis, cites_assertion, recalls, marks, spells_none, spells_more, mandatory_labels, IsRight, Good, HasItems, ItemsCite, Cites, RestsOn, directly, through, IsMarked, is_marked, Marks, label_of-bare, legal-labels}
 use Rattle.library.proofs.FrontLemmas.{active-below}
 use Rattle.library.proofs.UseMarkLemmas.{marked-within, one-marked, get-either}
@@ -108,7 +109,8 @@ rests-more : (S : Database) (j b a : ℕ) → RestsOn S j b → Cites S b a → 
 rests-more S j b a (directly d) c = through d (directly c)
 rests-more S j b a (through {b = m} d r) c = through d (rests-more S m b a r c)
 
--- the positions above p are done: j is marked, and otherwise only statements that j rests on; those that marked ones cite are
+-- the positions above p are done: j is marked, and otherwise only statements that j rests on; those
+-- that marked ones cite are
 pub record IsWalked (S : Database) (j p : ℕ) (ms : List Bool) : Type 0 where
   pub count : length ms ≡ j
   pub below : p ≤ j

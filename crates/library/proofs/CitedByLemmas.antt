@@ -1,4 +1,5 @@
--- The users of a statement, and the `$a` that a proof uses: the labels of the positions that a walk has marked.
+-- The users of a statement, and the `$a` that a proof uses: the labels of the positions that a walk
+-- has marked.
 use Rattle.library.proofs.Words.{◌≡◌, ◌↔◌, ◌⊎◌, ℕ, zero, suc, ◌+◌, ◌-◌, ◌<◌, ◌≤◌, Bool, true, false, cond, ◌&&◌, List, [], ◌∷◌, ◌++◌, length, replicate, get_or, false_from_ne_true, Some, None, Option, slice_get, slice_set, refl, sym, ◌∙◌, ap, subst, arith, inl, inr, append-nil, cases_eq, map-append, Name, Stmt, Prove, Database, bares, stmt_at, is_provable, stands-within, Item, label_or_empty, Good, HasItems, Cites, RestsOn, directly, through, IsUser, Rises, IsIn, AreLabelsOf, IsMarked, mark, ItemsCiteMarked, ProofCitesMarked, Axiom, IsProvable, Uses, is_axiom, IsAxiomAt, IsMarkedAxiom, get-last, get-more, set-get_or}
 use Rattle.library.proofs.ProvingLemmas.{not-there}
 use Rattle.library.proofs.UseMarkLemmas.{mark-count, mark-kept, mark-sound, mark-whole, one-marked, get-either, marked-within}
@@ -78,7 +79,8 @@ labels-same S P Q labels are same =
 
 -- ---- the walk towards the last position
 
--- a position that has to be marked: that of the query, or that of a user up to p if all users are meant
+-- a position that has to be marked: that of the query, or that of a user up to p if all users are
+-- meant
 abbrev IsSought : Database → Bool → ℕ → ℕ → ℕ → Type 0
 IsSought S all a p b = (b ≡ a) ⊎ ((b ≤ p) × (all ≡ true) × RestsOn S b a)
 
@@ -103,12 +105,14 @@ meets-user S all a p marks labels w (b, m, c) = by all ((w.marked b).0 m)
     by false (inl same) = subst (Cites S (suc p)) same c
     by false (inr q) = absurd (let e = q.1 in cc)
 
--- a position is marked only if its proof was found to cite a marked statement and all users are meant
+-- a position is marked only if its proof was found to cite a marked statement and all users are
+-- meant
 when-some : (found all : Bool) (at b : ℕ) → cond (found && all) (Some at) None ≡ Some b → (found ≡ true) × (all ≡ true) × (at ≡ b)
 when-some true true at b e = (refl, refl, let f = e in cc)
 when-some found all at b e = absurd (let f = e in cc)
 
--- if the proof cites a marked statement, its label is added, and it is marked too if all users are meant
+-- if the proof cites a marked statement, its label is added, and it is marked too if all users are
+-- meant
 module _ (S : Database) (all : Bool) (a p : ℕ) (marks marks' : List Bool) (labels labels' : List Name) (good : Good S) (within : suc p ≤ length S) (w : IsSearched S all a p marks labels) (found : Bool)
     (meets : found ≡ true ↔ ProofCitesMarked S (suc p) marks) (set : marks' ≡ mark (cond (found && all) (Some (suc p)) None) marks) (added : labels' ≡ labels ++ cond found (label_or_empty (stmt_at S (suc p)) ∷ []) []) where
   abbrev Here : Option ℕ

@@ -61,7 +61,8 @@ hypotheses-stand S s = by (hypotheses S s) (hyps S s)
     by [] h = tt
     by (p ∷ ps) h = (one p h.0, by ps h.1)
 
--- functions that agree on all positions up to the last statement agree on a list of positions of hypotheses
+-- functions that agree on all positions up to the last statement agree on a list of positions of
+-- hypotheses
 pub map-stand : {A : Type 0} (S : Database) (f g : ℕ → A) → ((i : ℕ) → i ≤ length S → f i ≡ g i) → (ps : List ℕ) → AreHypothesesAt S ps → map f ps ≡ map g ps
 map-stand S f g same [] h = refl
 map-stand S f g same (p ∷ ps) h = ap (λ v. v ∷ map f ps) (same p (stands-within S p h.0.stmt h.0.stands).1) ∙ ap (λ vs. g p ∷ vs) (map-stand S f g same ps h.1)

@@ -1,5 +1,5 @@
--- Good statements with a text after them: only the `$p` of the text have to be proved. Those before it stay proved, since a
--- derivation depends on earlier statements only.
+-- Good statements with a text after them: only the `$p` of the text have to be proved. Those before
+-- it stay proved, since a derivation depends on earlier statements only.
 use Rattle.library.proofs.Words.{◌≡◌, ℕ, ◌-◌, ◌≤◌, IsTrue, List, ◌∷◌, ◌++◌, length, map, zero, suc, ◌+◌, refl, ◌⊎◌, list_all, sym, ◌∙◌, ap, subst, arith, inl, inr, map-append, length-map, Name, Stmt, Expr, Database, before, is_variable, bare, bares, stmt_at, proof_of, stands-within, hypotheses, mandatory_groups, Carries, IsHypothesis, IsInstance, premises, expr_at, option_expr, Item, Derivation, Derivations, hyp, apply, more, Spells, SpellsAll, cites_hypothesis, cites_assertion, recalls, marks, spells_none, spells_more, IsRight, IsProvable, stmt_stays, Writes, mandatory_labels, label_or_empty, IsProved, are_groups_disjoint, Concludes, ConcludeAll}
 use Rattle.frame.specs.Substitution.{Images, apply as applied}
 use Rattle.library.proofs.FrontLemmas.{stmt_at-front, before-front, active-later, map-stand, hypotheses-at, stmt_at-after}

@@ -112,7 +112,8 @@ module _ (S F : Database) (same : F ≡ bares S) (once : HasLabelsOnce F) (at : 
       let labelled : label_or_empty (Some h.stmt) ≡ label = ap label_or_empty (sym h.stands ∙ ap (λ U. stmt_at U i) same) ∙ sym m.2 in
       there ∙ ap Some (once i a h.stmt r label (record { stands = h.stands; carried = kind-labelled h.stmt h.kind ∙ ap Some labelled }) c)
 
-  -- if no mandatory hypothesis is marked, and no token names a marked statement, the proof cites none
+  -- if no mandatory hypothesis is marked, and no token names a marked statement, the proof cites
+  -- none
   pub meets-nothing : (tokens : List Name) → proof_of s ≡ tokens → list_any (λ p. is_marked marks (Some p)) (hypotheses (before F at) (bare s)) ≡ false → ListsNone F tokens marks → false ≡ true ↔ ProofCitesMarked S at marks
   meets-nothing tokens e mandatory lists = ((λ f. absurd (let g = f in cc)), λ m. absurd (nothing m.0 m.1 m.2))
     where

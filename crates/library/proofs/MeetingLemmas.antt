@@ -1,4 +1,5 @@
--- Whether a compressed proof cites a marked statement, by its numbers and a test of each of its labels.
+-- Whether a compressed proof cites a marked statement, by its numbers and a test of each of its
+-- labels.
 use Rattle.library.proofs.Words.{◌≡◌, ◌↔◌, ℕ, zero, suc, ◌+◌, ◌-◌, ◌<◌, ◌≤◌, Bool, true, false, ◌||◌, if◌then◌else◌, List, [], ◌∷◌, ◌++◌, length, map, get_or, slice_index_or, take, drop, Option, Some, None, option_map, slice_get, refl, list_any, true≢false, length-append, sym, ◌∙◌, ap, subst, arith, append_assoc, inl, inr, slice_get-map, bytes_eq-Decides, map-append, length-map, length-drop, take_more, drop_more, get_or_append_left, append-nil, both_ways, true_from_ne_false, cases_lt, Name, name_eq, has_name, Stmt, Database, bare, bares, before, stmt_at, proof_of, hypotheses, HasLabelsOnce, IsPosition, Item, Cite, Recall, item_of, items_of, right_parenthesis, Writes, WritesCompressed, WritesFinishedCompressed, WritesFinishedNormal, is_compressed, label_or_empty, mandatory_labels, IsProvable, Good, HasItems, is_marked, cited_position, AreLabelMarks, ItemsCiteMarked, ProofCitesMarked, listed_in, ListsNone, ListsSome, get_or-map, get_or_from_slice_get, slice_get_within, get_or-append_right, take-add, cases_Bool, map-map, IsHeadingWithNumbers, share_label, positions-end, apart-written, shared-none, item-cite, item-recall}
 use Rattle.library.proofs.FrontLemmas.{AreHypothesesAt, hypotheses-at}
 use Rattle.library.proofs.UseMarkLemmas.{meets-items}
@@ -148,7 +149,8 @@ late-meets S marks words left n count old label_marks numbers found tested same 
 
 -- ---- the labels that a heading lists
 
--- if the tokens of a compressed proof write items under these labels, the flag says whether these cite a marked statement
+-- if the tokens of a compressed proof write items under these labels, the flag says whether these
+-- cite a marked statement
 abbrev pub TellsMeeting : Database → List Name → List Name → List Bool → Bool → Type 0
 TellsMeeting S mandatory tokens marks found =
     (other : List Item) → WritesCompressed tokens mandatory other → (items : List Item) × WritesCompressed tokens mandatory items × (found ≡ true ↔ ItemsCiteMarked S items marks)

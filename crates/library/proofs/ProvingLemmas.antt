@@ -1,4 +1,5 @@
--- From the answer of the verifier to whether a `$p` is proved; the labels with which its tokens write items.
+-- From the answer of the verifier to whether a `$p` is proved; the labels with which its tokens
+-- write items.
 use Rattle.library.proofs.Words.{◌≡◌, ℕ, ◌⊎◌, ◌↔◌, refl, true, false, IsTrue, List, map, Option, Some, None, Result, Ok, Err, IfOk, MatchOption, sym, ◌∙◌, ap, subst, inl, inr, both_ways, Name, Stmt, Database, bare, bares, before, proof_of, stmt_at, is_provable, Item, Writes, WritesFinishedCompressed, WritesFinishedNormal, IsMalformed, is_compressed, is_unfinished, label_or_empty, mandatory_labels, Proves, IsProvable, IsRight, IsAnswerTo, provable-bare, IsProvedIfProvable, HasItems, one_answer, malformed-none, ◌+◌, ◌<◌, [], ◌∷◌, ◌++◌, length, take, get_or, option_map, slice_get, slice_get-get_or, unwrap_or, map_more, Float, Ess, Prove, is_assertion, stmt_at-bares, hypotheses, is_hypothesis_kind, label_of-bare, CodeFault, Malformed, Answer, Proved, Wrong}
 use Rattle.proof_code.specs.declared.fault.CodeFault.TheVariants.{Unfinished}
 use Rattle.library.proofs.FrontLemmas.{hypotheses-bare, IsHypothesisAt, kind-bare, hypotheses-at, hypothesis-there}

@@ -1,6 +1,7 @@
 -- Why a text is not added: the first cause that holds.
 -- Source: this project's profile.
--- The code stops at the first cause that it meets; here each cause states which earlier causes do not hold.
+-- The code stops at the first cause that it meets; here each cause states which earlier causes do
+-- not hold.
 use Rattle.std.specs.Prelude.{◌≡◌, ◌≢◌, ℕ, ◌+◌, ◌<◌, ◌≤◌, IsTrue, IsFalse, List, ◌++◌, length, Option, Some, None}
 use Rattle.library.specs.Words.{Name, LexFault, IsLexFault, Stmt, Database, Reads, HasTokens, IsNoDatabase, proof_of, first_broken, is_unfinished, IsProvable}
 use Rattle.mm_lex.specs.declared.fault.LexFault.TheVariants as lex
@@ -27,7 +28,8 @@ pub record IsFirstUnproved (L T : Database) (n : ℕ) (s : Stmt) : Type 0 where
   pub unproved : ¬ IsProved (L ++ T) (length L + n)
   pub earlier : (m : ℕ) (r : Stmt) → m < n → IsProvable T m r → IsProved (L ++ T) (length L + m)
 
--- why the statements T are not good after L: the least rule broken, or the least `$p` that is not proved
+-- why the statements T are not good after L: the least rule broken, or the least `$p` that is not
+-- proved
 abbrev pub IsFault : Database → Database → Cause → Type 0
 IsFault L T (Rule n rule) = first_broken 1 L T ≡ Some (n, rule)
 IsFault L T (Proof n) =

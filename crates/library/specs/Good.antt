@@ -1,11 +1,12 @@
 -- Proved statements, and good lists of statements.
--- Source: Metamath, 4.2 and appendix B: each statement obeys the rules, and each `$p` has a right proof.
+-- Source: Metamath, 4.2 and appendix B: each statement obeys the rules, and each `$p` has a right
+-- proof.
 -- The code judges what a text adds; here the whole list is judged from its beginning.
 use Rattle.std.specs.Prelude.{ℕ, List}
 use Rattle.library.specs.Words.{Stmt, Database, bares, proof_of, AllLegal, Item, Writes, mandatory_labels, IsProvable, IsRight}
 
--- the tokens of the `$p` at a position write items that are right (`bares` leaves the proofs out: neither frames nor
--- derivations depend on them)
+-- the tokens of the `$p` at a position write items that are right (`bares` leaves the proofs out:
+-- neither frames nor derivations depend on them)
 pub record IsProved (S : Database) (at : ℕ) : Type 0 where
   pub stmt : Stmt
   pub items : List Item

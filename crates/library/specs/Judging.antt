@@ -1,6 +1,8 @@
--- Judging statements that follow others: the least rule broken, or else the least `$p` that is not proved.
+-- Judging statements that follow others: the least rule broken, or else the least `$p` that is not
+-- proved.
 -- Source: this project's profile; Metamath, 4.2 and appendix B.
--- The code adds the statements to the state of the rules and to frames, and rolls back if it finds a fault.
+-- The code adds the statements to the state of the rules and to frames, and rolls back if it finds
+-- a fault.
 use Rattle.std.specs.Prelude.{◌≡◌, ℕ, ◌+◌, ◌<◌, ◌≤◌, List, ◌++◌, length, Option, Some, None, Result, Ok, Err, IfOk, IfErr, Vec}
 use Rattle.std.specs.declared.alloc.Global.{Global}
 use Rattle.library.specs.Words.{Stmt, Database, AreShaped, Reads, IsReadFault, bares, first_broken, IsProvable}
@@ -19,7 +21,8 @@ IsPrefix prefix whole = (rest : Database) × (whole ≡ prefix ++ rest)
 abbrev pub IsProvedIfProvable : Database → ℕ → Type 0
 IsProvedIfProvable S at = (s : Stmt) → IsProvable S at s → IsProved S at
 
--- after the first `start` statements each `$p` is proved (`None`), or this is the least position of one that is not
+-- after the first `start` statements each `$p` is proved (`None`), or this is the least position of
+-- one that is not
 abbrev pub IsLeastUnproved : Database → ℕ → Option ℕ → Type 0
 IsLeastUnproved S start None = (at : ℕ) → start < at → at ≤ length S → IsProvedIfProvable S at
 IsLeastUnproved S start (Some at) =
@@ -37,7 +40,8 @@ IsJudged L T None =
     (first_broken 1 L T ≡ None) × ((n : ℕ) (s : Stmt) → IsProvable T n s → IsProved (L ++ T) (length L + n))
 IsJudged L T (Some cause) = IsFault L T cause
 
--- the tables have these statements, which are good, and which the rules have marked, to roll back to
+-- the tables have these statements, which are good, and which the rules have marked, to roll back
+-- to
 pub record IsChecked (S : Database) (tables : Tables) : Type 0 where
   pub shaped : AreShaped S
   pub good : Good S
@@ -56,7 +60,8 @@ ReadsTexts returns =
     (text : List ℕ) (r : Result (Vec Stmt Global) ReadFault) → returns text r
     → IfOk r (λ statements. Reads text statements.items) × IfErr r (IsReadFault text)
 
--- the statements of a text that is to be judged, or a cause of refusal that does not depend on earlier statements
+-- the statements of a text that is to be judged, or a cause of refusal that does not depend on
+-- earlier statements
 abbrev pub IsReading : Option (List ℕ) → Submission → Result (Vec Stmt Global) Cause → Type 0
 IsReading charter submission (Ok statements) = IsAllowed charter submission statements.items
 IsReading charter submission (Err cause) = (L : Database) → IsCause L charter submission cause

@@ -1,7 +1,8 @@
 -- Laws of the library of a log.
 -- Source: this project's profile.
--- The code applies entries as `Applies` defines. The first two laws state that the definitions leave no choice, the next two
--- that libraries grow and are good, and the last what a library is without charters.
+-- The code applies entries as `Applies` defines. The first two laws state that the definitions
+-- leave no choice, the next two that libraries grow and are good, and the last what a library is
+-- without charters.
 use Rattle.std.specs.Prelude.{◌≡◌, ◌↔◌, List, ◌++◌, map, option_map, Option, None}
 use Rattle.mm_read.specs.Statements.{Database}
 use Rattle.library.specs.declared.submission.Submission.{Submission}

@@ -1,6 +1,7 @@
 -- The library of a log: what its entries validly add, in order.
 -- Source: this project's profile.
--- The code keeps the state of the rules and the frames from text to text; here each text is judged with the whole list before it.
+-- The code keeps the state of the rules and the frames from text to text; here each text is judged
+-- with the whole list before it.
 use Rattle.std.specs.Prelude.{◌≡◌, ℕ, ◌*◌, true, false, ◌&&◌, ◌==◌, if◌then◌else◌, List, [], ◌∷◌, ◌++◌, length, Option, Some, None}
 use Rattle.mm_read.specs.Statements.{Database}
 use Rattle.library.specs.declared.entry.Entry.{Entry}
@@ -75,12 +76,14 @@ Decides old (Charter author serial names) (Refused cause) new =
     × (new ≡ record old { decided = decided_with old (Charter author serial names) (Refused cause) })
 Decides old entry verdict new = ⊥
 
--- an entry turns the replica old into new, given the verdict decided before under its author and serial number, if any
+-- an entry turns the replica old into new, given the verdict decided before under its author and
+-- serial number, if any
 abbrev pub AppliesAt : Option Verdict → ReplicaState → Entry → Verdict → ReplicaState → Type 0
 AppliesAt (Some first) old entry verdict new = (verdict ≡ Repeat) × (new ≡ old)
 AppliesAt None old entry verdict new = Decides old entry verdict new
 
--- one entry of the log, or a no-operation (`None`), turns the replica old into new, with this verdict
+-- one entry of the log, or a no-operation (`None`), turns the replica old into new, with this
+-- verdict
 abbrev pub Applies : ReplicaState → Option Entry → Verdict → ReplicaState → Type 0
 Applies old None verdict new = (verdict ≡ Nothing) × (new ≡ old)
 Applies old (Some entry) verdict new = AppliesAt (status_of old entry) old entry verdict new

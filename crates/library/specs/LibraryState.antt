@@ -1,6 +1,7 @@
 -- A library as contracts see it: its replica, and the count of its steps.
 -- Source: this project's profile.
--- The code has the statements three times: as they were read, as the state of the rules, and as frames.
+-- The code has the statements three times: as they were read, as the state of the rules, and as
+-- frames.
 use Rattle.std.specs.Prelude.{◌≡◌, ℕ, ◌+◌, ◌*◌, ◌≤◌, List, length, Option, Some, None, ⊤}
 use Rattle.library.specs.Words.{Database, Reads}
 use Rattle.library.specs.declared.submission.Submission.{Submission}
@@ -16,7 +17,8 @@ use Rattle.std.specs.BTreeMap.{BTreeMap, get}
 use Rattle.std.specs.Ordering.{nat_cmp, ordering_then}
 use Rattle.std.specs.declared.cmp.Ordering.{Ordering}
 
--- what contracts see of a library: its replica, and the number of statements that were given to the rules and frames
+-- what contracts see of a library: its replica, and the number of statements that were given to the
+-- rules and frames
 pub record LibraryModel : Type 0 where
   pub replica : ReplicaState
   pub steps : ℕ
@@ -58,7 +60,8 @@ abbrev pub HasFewStepsForEntry : Entry → ℕ → ℕ → Type 0
 HasFewStepsForEntry (Text submission) before after = HasFewStepsForText submission before after
 HasFewStepsForEntry (Charter author serial names) before after = after ≡ before
 
--- the application of an entry, given the verdict decided before under its author and serial number, if any
+-- the application of an entry, given the verdict decided before under its author and serial number,
+-- if any
 abbrev pub HasFewStepsAt : Option Verdict → Entry → ℕ → ℕ → Type 0
 HasFewStepsAt (Some first) entry before after = after ≡ before
 HasFewStepsAt None entry before after = HasFewStepsForEntry entry before after

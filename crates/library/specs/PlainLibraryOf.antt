@@ -46,7 +46,8 @@ PlainDecides old submission (Refused cause) new =
     × (new ≡ record { statements = old.statements; decided = plain_decided_with old submission (Refused cause) })
 PlainDecides old submission verdict new = ⊥
 
--- a text turns the replica old into new, given the verdict decided before under its author and serial number, if any
+-- a text turns the replica old into new, given the verdict decided before under its author and
+-- serial number, if any
 abbrev pub PlainAppliesAt : Option Verdict → PlainReplicaState → Submission → Verdict → PlainReplicaState → Type 0
 PlainAppliesAt (Some first) old submission verdict new = (verdict ≡ Repeat) × (new ≡ old)
 PlainAppliesAt None old submission verdict new = PlainDecides old submission verdict new

@@ -9,7 +9,8 @@ use Rattle.verify_pool.specs.Least.{IsLeast}
 use Rattle.verify_pool.specs.declared.checkers.Checkers.{Checkers}
 use Rattle.library.specs.Judging.{IsProvedIfProvable}
 
--- statements, the list of names to which their frames give numbers, and positions among the statements
+-- statements, the list of names to which their frames give numbers, and positions among the
+-- statements
 pub record ProofsAt : Type 0 where
   pub statements : Database
   pub names : List Name

@@ -1,4 +1,5 @@
--- Questions on a label: what the proof of a `$p` rests on, its items and the derivation that they spell; who uses a statement.
+-- Questions on a label: what the proof of a `$p` rests on, its items and the derivation that they
+-- spell; who uses a statement.
 -- Source: this project's profile; Metamath, 4.2.6 and appendix B.
 -- The code finds the label in a table.
 use Rattle.std.specs.Prelude.{ℕ, Bool, IsFalse, List}
@@ -29,7 +30,8 @@ pub record NamesProvable (S : Database) (label : Name) (j : ℕ) : Type 0 where
 abbrev pub IsTrace : Database → Name → List Name → Type 0
 IsTrace S label labels = (j : ℕ) × NamesProvable S label j × AreLabelsOf S (Uses S j) labels
 
--- the labels of the `$p` that cite the statement with the label, or, if all users are asked for, that rest on it
+-- the labels of the `$p` that cite the statement with the label, or, if all users are asked for,
+-- that rest on it
 abbrev pub IsUsage : Database → Name → Bool → List Name → Type 0
 IsUsage S label all labels = (a : ℕ) × (s : Stmt) × Carries S a s label × AreLabelsOf S (IsUser S all a) labels
 

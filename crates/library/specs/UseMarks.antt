@@ -1,15 +1,21 @@
 -- Which positions a walk over citations has marked.
 -- Source: none; for the private functions of `axioms_used` and `cited_by`.
--- The marks are a list with one flag for each position, the first for position 1; they are not the marks of proof code.
-use Rattle.std.specs.Prelude.{◌≡◌, ◌⊎◌, ℕ, zero, suc, ◌≤◌, Bool, true, false, List, [], ◌∷◌, length, map, if◌then◌else◌, Option, Some, None, slice_index_or, slice_set}
+-- The marks are a list with one flag for each position, the first for position 1; they are not the
+-- marks of proof code.
+use Rattle.std.specs.Prelude.{◌≡◌, ◌⊎◌, ◌↔◌, ℕ, zero, suc, ◌≤◌, Bool, true, false, List, [], ◌∷◌, ◌++◌, length, map, if◌then◌else◌, Option, Some, None, slice_index_or, slice_set}
 use Rattle.library.specs.Words.{Name, name_eq, has_name, Stmt, Database, Carries, Item, right_parenthesis}
 use Rattle.frame.specs.AtPosition.{ArePositions}
+use Rattle.proof_code.specs.ItemNumbers.{items_of}
 use Rattle.library.specs.Uses.{ItemsCite, Cites, IsAxiomAt}
 
 -- whether the position, if there is one, is marked
 abbrev pub is_marked : List Bool → Option ℕ → Bool
 is_marked marks (Some (suc k)) = slice_index_or marks k false
 is_marked marks o = false
+
+-- for each of these positions, whether it is marked
+abbrev pub marks_at : List Bool → List ℕ → List Bool
+marks_at marks positions = map (λ position. is_marked marks (Some position)) positions
 
 -- the position is marked
 abbrev pub IsMarked : List Bool → ℕ → Type 0
@@ -36,7 +42,8 @@ pub record AreLabelMarks (S : Database) (labels : List Name) (marks label_marks 
   pub named : ArePositions S labels label_positions
   pub tests : label_marks ≡ map (is_marked marks) label_positions
 
--- the positions that pass and have a flag in the list are marked, in addition to those marked before
+-- the positions that pass and have a flag in the list are marked, in addition to those marked
+-- before
 pub record Marks (Passes : ℕ → Type 0) (old new : List Bool) : Type 0 where
   pub count : length new ≡ length old
   pub kept : (a : ℕ) → IsMarked old a → IsMarked new a
@@ -50,6 +57,12 @@ IsMarkedAxiom S marks a = IsMarked marks a × IsAxiomAt S a
 -- an item cites a statement that is marked
 abbrev pub ItemsCiteMarked : Database → List Item → List Bool → Type 0
 ItemsCiteMarked S items marks = (a : ℕ) × IsMarked marks a × ItemsCite S items a
+
+-- `found` is whether an item of the numbers cites a marked statement, where the first labels are
+-- those of these mandatory hypotheses, by position, and the listed labels follow
+abbrev pub DecidesNumbersCiteMarked : Database → List Bool → List ℕ → List Name → List ℕ → Bool → Type 0
+DecidesNumbersCiteMarked S marks mandatory listed numbers found =
+    (labels : List Name) → AreLabelMarks S labels marks (marks_at marks mandatory) → found ≡ true ↔ ItemsCiteMarked S (items_of (labels ++ listed) numbers) marks
 
 -- the proof of the statement at a position cites a statement that is marked
 abbrev pub ProofCitesMarked : Database → ℕ → List Bool → Type 0

@@ -1,7 +1,9 @@
--- The statements that the proof of a `$p` rests on, by its own citations or by those of the `$p` that it cites, and the users of
--- a statement.
--- Source: Metamath, 4.2.6 and appendix B: a proof cites by labels; a label that is listed and not cited does not count.
--- The code walks the positions once, from the `$p` down or from the statement up; here one citation leads to the next.
+-- The statements that the proof of a `$p` rests on, by its own citations or by those of the `$p`
+-- that it cites, and the users of a statement.
+-- Source: Metamath, 4.2.6 and appendix B: a proof cites by labels; a label that is listed and not
+-- cited does not count.
+-- The code walks the positions once, from the `$p` down or from the statement up; here one citation
+-- leads to the next.
 use Rattle.std.specs.Prelude.{◌≡◌, ◌↔◌, ℕ, ◌<◌, Bool, true, false, IsTrue, List, [], ◌∷◌, map, Some, slice_get}
 use Rattle.library.specs.Words.{Name, Stmt, Axiom, Database, bares, stmt_at, proof_of, Carries, Item, Writes, label_or_empty, mandatory_labels, IsProvable}
 use Rattle.proof_code.specs.declared.item.Item.TheVariants.{Cite}
@@ -46,8 +48,8 @@ pub data RestsOn (S : Database) : ℕ → ℕ → Type 0 where
 abbrev pub Uses : Database → ℕ → ℕ → Type 0
 Uses S j a = RestsOn S j a × IsAxiomAt S a
 
--- the `$p` at j is a user of the statement at a, which `Library::usage` lists: it cites the statement, or, if all users are
--- asked for (`true`), rests on it
+-- the `$p` at j is a user of the statement at a, which `Library::usage` lists: it cites the
+-- statement, or, if all users are asked for (`true`), rests on it
 abbrev pub IsUser : Database → Bool → ℕ → ℕ → Type 0
 IsUser S true a j = RestsOn S j a
 IsUser S false a j = Cites S j a

@@ -1,5 +1,5 @@
--- Several of the names from other crates that these definitions use, re-exported from one place. (`Words` of `mm_lex`
--- is another thing: a list of tokens.)
+-- Several of the names from other crates that these definitions use, re-exported from one place.
+-- (`Words` of `mm_lex` is another thing: a list of tokens.)
 pub use Rattle.frame.specs.Citations.{Carries}
 pub use Rattle.mm_lex.specs.Alphabet.{Name, has_name, name_eq}
 pub use Rattle.mm_lex.specs.TextFaults.{IsLexFault}

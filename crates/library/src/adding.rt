@@ -1,9 +1,10 @@
-//! Appends the statements of a text to the rules and the frames, up to the first that breaks a rule. With several
-//! workers, the proofs of a first part of a long text are judged ahead: while the statements are appended.
+//! Appends the statements of a text to the rules and the frames, up to the first that breaks a
+//! rule. With several workers, the proofs of a first part of a long text are judged ahead: while
+//! the statements are appended.
 ghost use Rattle.std.specs.Prelude.{◌≡◌, ◌+◌, ◌*◌, ◌≤◌, length};
 ghost use Rattle.std.specs.Thread.{IsSync};
 ghost use Rattle.mm_read.specs.Statements.{AreShaped};
-ghost use Rattle.library.specs.Added.{AreProvedTo, IsAdded, count_of};
+ghost use Rattle.library.specs.Added.{AreProvedTo, IsAdded, IsCountedOnce, count_of};
 
 use crate::proof_jobs::{Proofs, least_unproved};
 use frame::Frames;
@@ -13,7 +14,8 @@ use std::alloc::{AllocError, Global};
 use std::thread::{Threads, join_mut};
 use verify_pool::{Checkers, Gate, PoolSize, judge_all};
 
-/// The proofs of a first part of a text are judged ahead only if that part has more statements than this.
+/// The proofs of a first part of a text are judged ahead only if that part has more statements than
+/// this.
 const AHEAD_THRESHOLD: usize = 8_192;
 
 /// Tables that judge the next statement: the state of the rules, and the frames of the statements.
@@ -23,8 +25,8 @@ pub(crate) struct Tables {
     pub frames: Frames,
 }
 
-/// How many statements were given to the rules and frames: by the calling thread, and by threads that judge proofs
-/// ahead.
+/// How many statements were given to the rules and frames: by the calling thread, and by threads
+/// that judge proofs ahead.
 #[derive(Drop)]
 pub(crate) struct StepCounts {
     pub calling: Steps,
@@ -43,15 +45,16 @@ pub(crate) struct Parallel<'a, G: Gate + Sync, R: Threads + Sync> {
 /// The outcome of adding statements.
 #[derive(Drop)]
 pub(crate) struct AddOutcome {
-    /// The number of the first statement that breaks a rule, counted from 1, and its least rule. A block that is open at the
-    /// end breaks G10 at the number after the last statement. An error if an allocation failed.
+    /// The number of the first statement that breaks a rule, counted from 1, and its least rule. A
+    /// block that is open at the end breaks G10 at the number after the last statement. An error if
+    /// an allocation failed.
     pub broken: Result<Option<(usize, Rule)>, AllocError>,
     /// A position up to which each new `$p` is known to be proved.
     pub proved_to: usize,
 }
 
-/// Adds the statements to the frames and the rules, up to the first that breaks a rule. Before that, tries to reserve
-/// room in the frames for half as many labels as there are statements.
+/// Adds the statements to the frames and the rules, up to the first that breaks a rule. Before
+/// that, tries to reserve room in the frames for half as many labels as there are statements.
 ///
 /// Cost: that of the statements, each of which `steps` counts at most once.
 pub(crate) fn add_all(statements: &[Stmt], tables: &mut Tables, steps: &mut Steps) -> AddOutcome
@@ -112,7 +115,7 @@ pub(crate) fn add_all_verifying<G: Gate + Sync, R: Threads + Sync>(
     let workers_ahead = (workers / 2).max(2) - 1;
     let mut verify = || -> usize
         requires { IsSync G.row × IsSync R.row × (1 ≤ workers_ahead) × (workers_ahead ≤ 16) × AreShaped first.now }
-        ensures { (result ≤ length first.entry.now) × AreProvedTo first.entry.now result × (ahead.entry.now.count ≤ ahead.exit.now.count) × (ahead.exit.now.count ≤ ahead.entry.now.count + length first.entry.now) }
+        ensures { (result ≤ length first.entry.now) × AreProvedTo first.entry.now result × IsCountedOnce ahead.entry.now ahead.exit.now first.entry.now }
     {
         let workers = PoolSize::new(workers_ahead);
         let parallel = Parallel {
@@ -125,7 +128,7 @@ pub(crate) fn add_all_verifying<G: Gate + Sync, R: Threads + Sync>(
     };
     let mut add = || -> AddOutcome
         requires { AreShaped statements.now × (tables.now.frames.statements ≡ tables.now.rules.statements) }
-        ensures { IsAdded tables.entry.now tables.exit.now statements.entry.now result × (calling.entry.now.count ≤ calling.exit.now.count) × (calling.exit.now.count ≤ calling.entry.now.count + length statements.entry.now) }
+        ensures { IsAdded tables.entry.now tables.exit.now statements.entry.now result × IsCountedOnce calling.entry.now calling.exit.now statements.entry.now }
     { add_all(statements, tables, calling) };
     let (proved_to, mut added) = join_mut(rt, &mut verify, &mut add);
     added.proved_to = proved_to;
@@ -154,8 +157,9 @@ fn count_ahead(statements: &[Stmt]) -> usize
     0
 }
 
-/// Adds the statements to new tables and judges their proofs. Returns the position of the last statement if each `$p`
-/// is found to be proved, else 0: if a rule is broken, a proof is not right, or an allocation fails.
+/// Adds the statements to new tables and judges their proofs. Returns the position of the last
+/// statement if each `$p` is found to be proved, else 0: if a rule is broken, a proof is not right,
+/// or an allocation fails.
 ///
 /// Cost: that of `add_all`, and that of the proofs, divided among the workers.
 fn verify_ahead<G: Gate + Sync, R: Threads + Sync>(

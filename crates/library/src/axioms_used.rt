@@ -1,4 +1,5 @@
-//! The axioms of a proof: the items that its tokens write, the `$a` that it cites, and those that the `$p` it cites rest on.
+//! The axioms of a proof: the items that its tokens write, the `$a` that it cites, and those that
+//! the `$p` it cites rest on.
 ghost use Rattle.std.specs.Prelude.{◌≡◌, ◌≤◌, length, Some, IfOk, OnOk, MatchOption};
 ghost use Rattle.frame.specs.AtPosition.{HasLabelsOnce};
 ghost use Rattle.library.specs.UseMarks.{cited_position, mark, Marks};
@@ -42,12 +43,12 @@ pub(crate) fn items_of(database: &CheckedDatabase, at: usize) -> Result<Option<I
 
 /// Returns the labels of the `$a` that the `$p` at a position uses, each once, in order.
 ///
-/// Errors: an allocation fails. Cost: that of the proofs that it rests on, each read once, and a byte for each
-/// statement before it.
+/// Errors: an allocation fails. Cost: that of the proofs that it rests on, each read once, and a
+/// byte for each statement before it.
 ///
-/// Marks the position of the `$p`, and each position whose statement is cited by the proof of a marked `$p`. A proof
-/// cites earlier statements only, so one walk down the positions is enough. (`marks` has a flag for each position;
-/// these are not the marks of proof code.)
+/// Marks the position of the `$p`, and each position whose statement is cited by the proof of a
+/// marked `$p`. A proof cites earlier statements only, so one walk down the positions is enough.
+/// (`marks` has a flag for each position; these are not the marks of proof code.)
 pub(crate) fn axioms_used(database: &CheckedDatabase, at: usize) -> Result<Vec<Word>, AllocError>
     requires { (s : Statement) × IsProvable database.now at s }
     ensures { IfOk result (λ labels. AreLabelsOf database.now (Uses database.now at) labels.items) }

@@ -8,8 +8,8 @@ use std::marker::Model;
 /// The largest number of authors that a charter may list.
 pub const MAX_NAMES: usize = 64;
 
-/// The authors that a charter lists: 1 to 64 strictly increasing numbers. While the charter is in force, these authors alone
-/// may declare constants and axioms. Contracts see the list of numbers.
+/// The authors that a charter lists: 1 to 64 strictly increasing numbers. While the charter is in
+/// force, these authors alone may declare constants and axioms. Contracts see the list of numbers.
 #[derive(Drop)]
 pub struct Names {
     numbers: Vec<u64>,
@@ -27,8 +27,8 @@ impl Model for Names {
 }
 
 impl Names {
-    /// Returns the authors with these numbers; `None` if the list is empty, has more than 64 numbers,
-    /// or is not strictly increasing.
+    /// Returns the authors with these numbers; `None` if the list is empty, has more than 64
+    /// numbers, or is not strictly increasing.
     /// Does not allocate.
     pub fn new(numbers: Vec<u64>) -> Option<Names>
         ensures { MatchOption result (AreNames numbers.items → ⊥) (λ names. names ≡ numbers.items) }

@@ -1,4 +1,5 @@
-//! Good statements (each obeys the rules, all blocks close, and each `$p` is proved), with the tables that judge later ones.
+//! Good statements (each obeys the rules, all blocks close, and each `$p` is proved), with the
+//! tables that judge later ones.
 ghost use Rattle.std.specs.Prelude.{◌≡◌, ◌+◌, ◌-◌, ◌*◌, ◌≤◌, ◌++◌, [], length, take, drop, Ok, Some, None, IfOk, OnOk, OnErr};
 ghost use Rattle.frame.specs.AtPosition.{HasLabelsOnce};
 ghost use Rattle.library.specs.Added.{Adds, IsAddedAfter, count_of};
@@ -21,8 +22,8 @@ use std::alloc::{AllocError, Global};
 use std::marker::Model;
 use verify_pool::Checkers;
 
-/// Good statements as they were read, with the tables that take the next one and the proof checkers, which are reused
-/// from text to text. Contracts see the list of statements.
+/// Good statements as they were read, with the tables that take the next one and the proof
+/// checkers, which are reused from text to text. Contracts see the list of statements.
 #[derive(Drop)]
 pub(crate) struct CheckedDatabase {
     statements: Vec<Stmt>,
@@ -112,12 +113,14 @@ impl CheckedDatabase {
         self.checkers.alloc()
     }
 
-    /// Appends the statements if the whole list is then good; otherwise appends none and returns the cause. `add` adds
-    /// statements to the tables, and `first_wrong` returns the index of the first proof that is not right, or `None`.
+    /// Appends the statements if the whole list is then good; otherwise appends none and returns
+    /// the cause. `add` adds statements to the tables, and `first_wrong` returns the index of the
+    /// first proof that is not right, or `None`.
     ///
-    /// Errors: an allocation fails; nothing is added then. Cost: that of the statements added, each of which `steps`
-    /// counts at most twice; that of their proofs; and that of `Checkers::repeat_searches`. Rolling back cannot fail.
-    /// Most of the memory that only refused statements needed is given back, if smaller blocks can be allocated.
+    /// Errors: an allocation fails; nothing is added then. Cost: that of the statements added, each
+    /// of which `steps` counts at most twice; that of their proofs; and that of
+    /// `Checkers::repeat_searches`. Rolling back cannot fail. Most of the memory that only refused
+    /// statements needed is given back, if smaller blocks can be allocated.
     pub(crate) fn extend<
         E: Fn(&[Stmt], &mut Tables, &mut StepCounts, &mut Checkers) -> AddOutcome,
         F: Fn(&Proofs<'_>, &mut Checkers) -> Result<Option<usize>, AllocError>,
@@ -180,8 +183,9 @@ fn append_all(statements: &mut Vec<Stmt>, mut more: Vec<Stmt>) -> Result<(), All
     Ok(())
 }
 
-/// Adds the statements after the first `start` to the tables, which have taken these first ones. Before that, the
-/// frames repeat long searches that the checkers made for the text before, and keep the answers.
+/// Adds the statements after the first `start` to the tables, which have taken these first ones.
+/// Before that, the frames repeat long searches that the checkers made for the text before, and
+/// keep the answers.
 ///
 /// Cost: that of `add`, and that of `Checkers::repeat_searches`.
 fn add_after<E: Fn(&[Stmt], &mut Tables, &mut StepCounts, &mut Checkers) -> AddOutcome>(
@@ -204,8 +208,8 @@ fn add_after<E: Fn(&[Stmt], &mut Tables, &mut StepCounts, &mut Checkers) -> AddO
     add(&statements[start..], tables, steps, checkers)
 }
 
-/// Returns why the statements after the first `start` are refused, given the outcome of adding them; `None` if they
-/// are good there.
+/// Returns why the statements after the first `start` are refused, given the outcome of adding
+/// them; `None` if they are good there.
 ///
 /// Errors: an allocation fails. Cost: that of the proofs, and one pass over these statements.
 fn judge<F: Fn(&Proofs<'_>, &mut Checkers) -> Result<Option<usize>, AllocError>>(

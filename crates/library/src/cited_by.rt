@@ -1,13 +1,11 @@
 //! The theorems that use a statement: the `$p` that cite it or, if all users are asked for, that
 //! rest on it.
-ghost use Rattle.std.specs.Prelude.{◌≡◌, ◌≤◌, ◌↔◌, ◌++◌, List, true, false, Some, length, map, take, IfOk};
+ghost use Rattle.std.specs.Prelude.{◌≡◌, ◌≤◌, ◌↔◌, ◌++◌, true, false, Some, length, take, IfOk};
 ghost use Rattle.frame.specs.AtPosition.{HasLabelsOnce};
 ghost use Rattle.frame.specs.FrameOf.{hypotheses};
-ghost use Rattle.library.specs.UseMarks.{is_marked, AreLabelMarks, ItemsCiteMarked, ProofCitesMarked, ListsNone, ListsSome};
+ghost use Rattle.library.specs.UseMarks.{is_marked, marks_at, DecidesNumbersCiteMarked, ProofCitesMarked, ListsNone, ListsSome};
 ghost use Rattle.library.specs.Uses.{IsUser, AreLabelsOf};
-ghost use Rattle.mm_lex.specs.Alphabet.{Name};
 ghost use Rattle.mm_read.specs.declared.stmt.Stmt.{Stmt as Statement};
-ghost use Rattle.proof_code.specs.ItemNumbers.{items_of};
 ghost use Rattle.proof_code.specs.Writes.{is_compressed};
 ghost use Rattle.scope.specs.Active.{bare, bares, before, proof_of};
 ghost use Rattle.std.specs.List.{list_any};
@@ -20,14 +18,14 @@ use mm_read::Stmt;
 use proof_code::{Heading, Reader, is_compressed};
 use std::alloc::AllocError;
 
-/// Returns the labels of the `$p` that cite the statement at a position, each once, in order; with `all` also of those that
-/// cite one of them, and so on.
+/// Returns the labels of the `$p` that cite the statement at a position, each once, in order; with
+/// `all` also of those that cite one of them, and so on.
 ///
-/// Errors: an allocation fails. Cost: a byte for each statement, and the proofs after the position, each read once, or
-/// twice if it lists a label that is sought.
+/// Errors: an allocation fails. Cost: a byte for each statement, and the proofs after the position,
+/// each read once, or twice if it lists a label that is sought.
 ///
-/// A position is marked if the statement there is sought: `marks` has a flag for each position. These are not the marks
-/// of proof code.
+/// A position is marked if the statement there is sought: `marks` has a flag for each position.
+/// These are not the marks of proof code.
 pub(crate) fn citing_labels(
     database: &CheckedDatabase,
     at: usize,
@@ -63,14 +61,15 @@ struct Search {
     reader: Reader,
     /// The positions of a proof's mandatory hypotheses.
     mandatory: Vec<u32>,
-    /// For each label of a proof, those of mandatory hypotheses first, whether the statement is marked.
+    /// For each label of a proof, those of mandatory hypotheses first, whether the statement is
+    /// marked.
     label_marks: Vec<bool>,
 }
 
 impl Search {
-    /// Returns whether the proof of the `$p` at a position, whose tokens these are, cites a marked statement. A normal proof
-    /// cites the labels that it lists. The letters of a compressed one need not be read if no mandatory hypothesis and no
-    /// listed label is marked.
+    /// Returns whether the proof of the `$p` at a position, whose tokens these are, cites a marked
+    /// statement. A normal proof cites the labels that it lists. The letters of a compressed one
+    /// need not be read if no mandatory hypothesis and no listed label is marked.
     fn cites_marked(
         &mut self,
         database: &CheckedDatabase,
@@ -111,7 +110,8 @@ impl Search {
 }
 
 impl Search {
-    /// Answers as `cites_marked` does, for a proof with many mandatory hypotheses, which are read through a view.
+    /// Answers as `cites_marked` does, for a proof with many mandatory hypotheses, which are read
+    /// through a view.
     fn cites_marked_by_view(
         &mut self,
         database: &CheckedDatabase,
@@ -134,9 +134,10 @@ impl Search {
     }
 }
 
-/// Returns whether one of the numbers cites a marked statement. Puts into `label_marks` a flag for each mandatory
-/// hypothesis and then for each listed label: whether its statement is marked. A label that is listed is usually cited,
-/// so the numbers are searched once the first marked label is found, and again after the last label if nothing was found.
+/// Returns whether one of the numbers cites a marked statement. Puts into `label_marks` a flag for
+/// each mandatory hypothesis and then for each listed label: whether its statement is marked. A
+/// label that is listed is usually cited, so the numbers are searched once the first marked label
+/// is found, and again after the last label if nothing was found.
 fn numbers_cite_marked(
     frames: &Frames,
     heading: Heading<'_>,
@@ -147,8 +148,7 @@ fn numbers_cite_marked(
 ) -> Result<bool, AllocError>
     requires once { HasLabelsOnce frames.now.statements }
     requires listed { heading.count ≤ length heading.words }
-    ensures { IfOk result (λ found. (mandatory_labels : List Name) → AreLabelMarks frames.now.statements mandatory_labels marks.now (map (λ position. is_marked marks.now (Some position)) mandatory.now)
-        → found ≡ true ↔ ItemsCiteMarked frames.now.statements (items_of (mandatory_labels ++ take heading.entry.count heading.entry.words) numbers.now) marks.now) }
+    ensures { IfOk result (DecidesNumbersCiteMarked frames.now.statements marks.now mandatory.now (take heading.entry.count heading.entry.words) numbers.now) }
 {
     label_marks.clear();
     for position in mandatory {
@@ -172,8 +172,8 @@ fn numbers_cite_marked(
     Ok(has_marked(numbers, label_marks))
 }
 
-/// Answers as `numbers_cite_marked` does, with the mandatory hypotheses read through a view, and flags for the listed
-/// labels alone.
+/// Answers as `numbers_cite_marked` does, with the mandatory hypotheses read through a view, and
+/// flags for the listed labels alone.
 fn numbers_cite_marked_by_view(
     frames: &Frames,
     heading: Heading<'_>,
@@ -184,8 +184,7 @@ fn numbers_cite_marked_by_view(
 ) -> Result<bool, AllocError>
     requires once { HasLabelsOnce frames.now.statements }
     requires listed { heading.count ≤ length heading.words }
-    ensures { IfOk result (λ found. (mandatory_labels : List Name) → AreLabelMarks frames.now.statements mandatory_labels marks.now (map (λ position. is_marked marks.now (Some position)) view.now)
-        → found ≡ true ↔ ItemsCiteMarked frames.now.statements (items_of (mandatory_labels ++ take heading.entry.count heading.entry.words) numbers.now) marks.now) }
+    ensures { IfOk result (DecidesNumbersCiteMarked frames.now.statements marks.now view.now (take heading.entry.count heading.entry.words) numbers.now) }
 {
     label_marks.clear();
     let mut words = heading.words;
@@ -205,7 +204,7 @@ fn has_marked_number(
     label_marks: &[bool],
     numbers: &[u32],
 ) -> bool
-    ensures { result ≡ list_any (λ n. is_marked (map (λ position. is_marked marks.now (Some position)) view.now ++ label_marks.now) (Some n)) numbers.now }
+    ensures { result ≡ list_any (λ n. is_marked (marks_at marks.now view.now ++ label_marks.now) (Some n)) numbers.now }
 {
     numbers.iter().any(|number| is_marked_number(view, marks, label_marks, *number as usize))
 }
@@ -217,7 +216,7 @@ fn is_marked_number(
     label_marks: &[bool],
     number: usize,
 ) -> bool
-    ensures { result ≡ is_marked (map (λ position. is_marked marks.now (Some position)) view.now ++ label_marks.now) (Some number) }
+    ensures { result ≡ is_marked (marks_at marks.now view.now ++ label_marks.now) (Some number) }
 {
     let mandatory_count = view.len();
     if number == 0 {

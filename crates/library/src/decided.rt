@@ -1,4 +1,5 @@
-//! The state of an entry, and the list of verdicts in the order of the log. Only contracts see that list.
+//! The state of an entry, and the list of verdicts in the order of the log. Only contracts see that
+//! list.
 ghost use Rattle.std.specs.Prelude.{◌≡◌, ◌++◌, ◌∷◌, [], List};
 ghost use Rattle.std.specs.Borrow.{ftrue};
 ghost use Rattle.library.specs.LibraryOf.{EntryVerdict};
@@ -16,8 +17,8 @@ pub enum EntryState {
     Decided(Option<Cause>),
 }
 
-/// The author, the number and the outcome of an entry that is decided: the cause if it was refused, `None` if it was
-/// added.
+/// The author, the number and the outcome of an entry that is decided: the cause if it was refused,
+/// `None` if it was added.
 #[derive(Drop)]
 pub struct DecidedEntry {
     pub author: u64,

@@ -6,13 +6,15 @@ use crate::charter::Names;
 use crate::submission::Submission;
 use std::alloc::AllocError;
 
-/// An entry of the log. Texts and charters share one numbering: an author and a serial number identify one entry.
+/// An entry of the log. Texts and charters share one numbering: an author and a serial number
+/// identify one entry.
 #[derive(Drop)]
 pub enum Entry {
     /// A text, to be added whole or not at all.
     Text(Submission),
-    /// A charter. Once it is added, and until the next one is, the named authors alone may declare constants and
-    /// axioms, and only a charter of theirs is added. The first charter may be any author's.
+    /// A charter. Once it is added, and until the next one is, the named authors alone may declare
+    /// constants and axioms, and only a charter of theirs is added. The first charter may be any
+    /// author's.
     Charter {
         author: u64,
         serial: u64,

@@ -1,4 +1,5 @@
-//! Laws of the library of a log. Each is a function that does nothing and ensures a sentence of `specs/Laws`.
+//! Laws of the library of a log. Each is a function that does nothing and ensures a sentence of
+//! `specs/Laws`.
 ghost use Rattle.library.specs.Laws.{OneVerdict, OneLibrary, LibrariesGrow, LibrariesAreGood, PlainWithoutCharters};
 
 /// At a given replica, an entry has one verdict and leads to one replica.
@@ -11,7 +12,8 @@ pub fn one_library()
     ensures { OneLibrary }
 {}
 
-/// The statements of a log's library are a prefix of those of the library of a log that continues it.
+/// The statements of a log's library are a prefix of those of the library of a log that continues
+/// it.
 pub fn libraries_grow()
     ensures { LibrariesGrow }
 {}

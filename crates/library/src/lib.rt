@@ -1,12 +1,14 @@
-//! One replica of the library: applies entries of the log, and keeps their verdicts and the statements that they validly add.
+//! One replica of the library: applies entries of the log, and keeps their verdicts and the
+//! statements that they validly add.
 //!
-//! The main contract, which `world` uses: applying an entry changes the replica as `Applies` of `specs/LibraryOf` defines, and
-//! returns the verdict; if an allocation fails, nothing is decided.
+//! The main contract, which `world` uses: applying an entry changes the replica as `Applies` of
+//! `specs/LibraryOf` defines, and returns the verdict; if an allocation fails, nothing is decided.
 //!
-//! Reading order: `submission`, `charter`, `entry` (the entries of a log), `verdict`; `library`, `decided`;
-//! `entry_text` (reads a text under the charter in force), `checked_database` (all or nothing), `adding` (the rules),
-//! `proof_jobs` (the first proof that is not right); `queries` (questions on a label), `axioms_used`, `cited_by`;
-//! `listed` (the assertions); `laws`. The README explains the words: charter, good, right, heavy, gate.
+//! Reading order: `submission`, `charter`, `entry` (the entries of a log), `verdict`; `library`,
+//! `decided`; `entry_text` (reads a text under the charter in force), `checked_database` (all or
+//! nothing), `adding` (the rules), `proof_jobs` (the first proof that is not right); `queries`
+//! (questions on a label), `axioms_used`, `cited_by`; `listed` (the assertions); `laws`. The README
+//! explains the words: charter, good, right, heavy, gate.
 #![tactic(auto)]
 
 mod adding;

@@ -28,12 +28,13 @@ use std::marker::Model;
 use std::thread::Threads;
 use verify_pool::{Checkers, Gate, PoolSize, judge_all, judge_here};
 
-/// The statements added, the state of each entry by its author and serial number, and the charter in force. Contracts
-/// see a replica (`ReplicaState` of `specs/LibraryOf`, with the verdicts in the order of the log), and a count of steps: of
-/// the statements that were given to the rules and frames.
+/// The statements added, the state of each entry by its author and serial number, and the charter
+/// in force. Contracts see a replica (`ReplicaState` of `specs/LibraryOf`, with the verdicts in the
+/// order of the log), and a count of steps: of the statements that were given to the rules and
+/// frames.
 ///
-/// Authors choose the numbers, so the table is an ordered map: no choice makes a look-up cost more than the logarithm of the
-/// count of entries.
+/// Authors choose the numbers, so the table is an ordered map: no choice makes a look-up cost more
+/// than the logarithm of the count of entries.
 #[derive(Drop)]
 pub struct Library {
     database: CheckedDatabase,
@@ -72,8 +73,9 @@ impl Library {
         }
     }
 
-    /// Returns a library of good statements, given with their rules and frames, without verdicts and charter. Does not
-    /// allocate. Judges nothing: the caller knows that the statements are good (`Good`).
+    /// Returns a library of good statements, given with their rules and frames, without verdicts
+    /// and charter. Does not allocate. Judges nothing: the caller knows that the statements are
+    /// good (`Good`).
     ///
     /// Cost: a constant.
     pub fn from_good(alloc: Global, statements: Vec<Stmt>, rules: Rules, frames: Frames) -> Library
@@ -96,13 +98,15 @@ impl Library {
         }
     }
 
-    /// Applies the next entry of the log; `None` is a no-operation. Raises the count of steps, which only contracts
-    /// see, by at most three for each statement of the text.
+    /// Applies the next entry of the log; `None` is a no-operation. Raises the count of steps,
+    /// which only contracts see, by at most three for each statement of the text.
     ///
-    /// Errors: an allocation fails; the entry stays undecided, and statements, verdicts and charter are as before.
-    /// Cost: that of reading the entry's text and of judging its statements and proofs, whatever was added before and
-    /// whoever submitted it, with the exceptions of `docs/COSTS.md`; the logarithm of the count of entries; and that of
-    /// the searches made for the text before, which the frames repeat (`Checkers::repeat_searches`).
+    /// Errors: an allocation fails; the entry stays undecided, and statements, verdicts and charter
+    /// are as before.
+    /// Cost: that of reading the entry's text and of judging its statements and proofs, whatever
+    /// was added before and whoever submitted it, with the exceptions of `docs/COSTS.md`; the
+    /// logarithm of the count of entries; and that of the searches made for the text before, which
+    /// the frames repeat (`Checkers::repeat_searches`).
     pub fn apply(&mut self, next: Option<&Entry>) -> Result<Verdict, AllocError>
         ensures applies { IfOk result (λ verdict. Applies self.old.replica (option_map (λ e. e.now) next.entry) verdict self.new.replica) }
         ensures same { OnErr result (self.new.replica ≡ self.old.replica) }
@@ -121,7 +125,8 @@ impl Library {
         )
     }
 
-    /// Applies the next entry as `apply` does, its text read and its proofs judged in parallel, by `workers` at most.
+    /// Applies the next entry as `apply` does, its text read and its proofs judged in parallel, by
+    /// `workers` at most.
     ///
     /// Each worker passes the gate before each proof that is dealt to it (at `Place::Job` of
     /// `verify_pool`). The jobs are the `$p` of the text, in order, counted from 0. If the proofs
@@ -131,11 +136,11 @@ impl Library {
     /// (`judge_all`). The verdict does not depend on the number of workers; whether an allocation
     /// fails may.
     ///
-    /// Errors: those of `apply`; `AllocError` may also be returned if a proof is heavy, that is, if its results have
-    /// more symbols than a worker holds (`MAX_WORKER_SYMBOLS`), and the gate keeps such proofs out
-    /// (`Gate::admits_heavy`).
-    /// Cost: that of `apply`; reading a large text and judging its proofs are divided among the workers. Statements
-    /// that are added again, and proofs that are judged again, cost twice.
+    /// Errors: those of `apply`; `AllocError` may also be returned if a proof is heavy, that is, if
+    /// its results have more symbols than a worker holds (`MAX_WORKER_SYMBOLS`), and the gate keeps
+    /// such proofs out (`Gate::admits_heavy`).
+    /// Cost: that of `apply`; reading a large text and judging its proofs are divided among the
+    /// workers. Statements that are added again, and proofs that are judged again, cost twice.
     pub fn apply_with<G: Gate + Sync, R: Threads + Sync>(
         &mut self,
         rt: &R,
@@ -230,8 +235,8 @@ impl Library {
         Ok(verdict_of(cause))
     }
 
-    /// Returns the verdict first decided on the author's entry of that serial number: Added or Refused; `None` if none was
-    /// decided. Does not allocate.
+    /// Returns the verdict first decided on the author's entry of that serial number: Added or
+    /// Refused; `None` if none was decided. Does not allocate.
     ///
     /// Cost: the logarithm of the count of entries.
     pub fn status(&self, author: u64, serial: u64) -> Option<Verdict>

@@ -12,8 +12,8 @@ use std::marker::Model;
 use verify::{Answer, Checker};
 use verify_pool::{Checkers, Work};
 
-/// The `$p` to be judged, by position, as jobs for a pool of workers. Contracts see all statements, the list of names
-/// to which the frames give numbers, and the positions of these `$p`.
+/// The `$p` to be judged, by position, as jobs for a pool of workers. Contracts see all statements,
+/// the list of names to which the frames give numbers, and the positions of these `$p`.
 #[derive(Drop)]
 pub(crate) struct Proofs<'a> {
     frames: &'a Frames,
@@ -60,8 +60,9 @@ impl<'a> Work for Proofs<'a> {
     }
 }
 
-/// Returns the position of the first `$p` after the first `start` statements that is not proved, or `None` if each is
-/// proved. `first_wrong` returns the index of the first proof that is not right, or `None`.
+/// Returns the position of the first `$p` after the first `start` statements that is not proved, or
+/// `None` if each is proved. `first_wrong` returns the index of the first proof that is not right,
+/// or `None`.
 ///
 /// Errors: an allocation fails. Cost: that of the proofs, and one pass over these statements.
 pub(crate) fn least_unproved<

@@ -1,5 +1,5 @@
-//! Questions on a label: the axioms of a `$p`, the items of its proof and the derivation that they spell; the theorems that
-//! use a statement.
+//! Questions on a label: the axioms of a `$p`, the items of its proof and the derivation that they
+//! spell; the theorems that use a statement.
 ghost use Rattle.std.specs.Prelude.{◌≡◌, ◌≢◌, ◌↔◌, ◌⊎◌, Ok, Err, IfOk, MatchResult};
 ghost use Rattle.frame.specs.AtPosition.{HasLabelsOnce};
 ghost use Rattle.library.specs.Good.{Good};
@@ -26,7 +26,8 @@ pub enum AskFault {
     NoLabel,
     /// The statement with the label is no `$p`.
     NotProvable,
-    /// The derivation has more than 65,536 nodes (`MAX_NODES` of `verify`) or a depth above 1,024 (`MAX_DEPTH`).
+    /// The derivation has more than 65,536 nodes (`MAX_NODES` of `verify`) or a depth above 1,024
+    /// (`MAX_DEPTH`).
     TooLarge,
     /// An allocation failed.
     Memory,
@@ -43,8 +44,9 @@ impl From<AllocError> for AskFault {
 }
 
 impl Library {
-    /// Returns the labels of the `$a` on which the proof of the `$p` with the label rests: those that it cites, and those on which
-    /// the proofs of the `$p` that it cites rest. Each is returned once, in the order of the library.
+    /// Returns the labels of the `$a` on which the proof of the `$p` with the label rests: those
+    /// that it cites, and those on which the proofs of the `$p` that it cites rest. Each is
+    /// returned once, in the order of the library.
     ///
     /// Errors: `NoLabel` if no statement has the label, `NotProvable` if the one that has it is no
     /// `$p`, both even if every allocation fails; else `Memory`. Cost: that of the proof and of
@@ -60,12 +62,14 @@ impl Library {
         Ok(axioms_used(self.database(), at)?)
     }
 
-    /// Returns the labels of the `$p` whose proofs cite the statement with the label, a hypothesis or an assertion, each once,
-    /// in the order of the library; with `all` also of those that use it through other `$p`.
+    /// Returns the labels of the `$p` whose proofs cite the statement with the label, a hypothesis
+    /// or an assertion, each once, in the order of the library; with `all` also of those that use
+    /// it through other `$p`.
     ///
-    /// Errors: `NoLabel` if no statement has the label, even if every allocation fails; else `Memory`. Cost: a byte for
-    /// each statement, and the proofs after the one with the label. Each of these is read once, or twice if it lists a
-    /// label that is sought: this label or, with `all`, that of a `$p` found before.
+    /// Errors: `NoLabel` if no statement has the label, even if every allocation fails; else
+    /// `Memory`. Cost: a byte for each statement, and the proofs after the one with the label. Each
+    /// of these is read once, or twice if it lists a label that is sought: this label or, with
+    /// `all`, that of a `$p` found before.
     /// Source: Metamath, 4.2.6 and appendix B.
     pub fn usage(&self, label: &[u8], all: bool) -> Result<Vec<Word>, AskFault>
         ensures labels { IfOk result (λ labels. IsUsage self.now.replica.statements label.now all labels.items) }
@@ -80,9 +84,11 @@ impl Library {
         }
     }
 
-    /// Returns the position of the `$p` with the label, and the items that the tokens of its proof write, which are right.
+    /// Returns the position of the `$p` with the label, and the items that the tokens of its proof
+    /// write, which are right.
     ///
-    /// Errors: those of `trace`. Cost: the proof's own size. Source: Metamath, 4.2.6 and appendix B.
+    /// Errors: those of `trace`. Cost: the proof's own size. Source: Metamath, 4.2.6 and appendix
+    /// B.
     pub fn items(&self, label: &[u8]) -> Result<(usize, Items), AskFault>
         ensures items { IfOk result (λ found. IsProofOf self.now.replica.statements label.now found.0 found.1) }
         ensures no_label { (result ≡ Err AskFault.NoLabel) ↔ HasNoLabel self.now.replica.statements label.now }
@@ -106,8 +112,9 @@ impl Library {
 
     /// Returns the derivation that the proof of the `$p` with the label spells.
     ///
-    /// Errors: `NoLabel` and `NotProvable` as for `trace`; `TooLarge` if the derivation has more than 65,536 nodes or a
-    /// depth above 1,024; `Memory` if an allocation fails, even if the derivation is too large.
+    /// Errors: `NoLabel` and `NotProvable` as for `trace`; `TooLarge` if the derivation has more
+    /// than 65,536 nodes or a depth above 1,024; `Memory` if an allocation fails, even if the
+    /// derivation is too large.
     /// Cost: a check of the proof, and the tree. Source: Metamath, 4.2.6 and appendix B.
     pub fn tree(&self, label: &[u8]) -> Result<Tree, AskFault>
         ensures tree { IfOk result (λ tree. IsTreeOf self.now.replica.statements label.now (derivation_of tree)) }

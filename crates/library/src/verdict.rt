@@ -2,25 +2,25 @@
 
 use scope::Rule;
 
-/// Why an entry is refused: the first of these causes that holds, in this order. Statements are numbered from 1
-/// within the text; `${` and `$}` are counted.
+/// Why an entry is refused: the first of these causes that holds, in this order. Statements are
+/// numbered from 1 within the text; `${` and `$}` are counted.
 ///
-/// A proof is right if its tokens write items that spell a derivation of its `$p`, with a weight (the number of symbols
-/// of the results of all citations and recalls) of at most 67,108,864.
+/// A proof is right if its tokens write items that spell a derivation of its `$p`, with a weight
+/// (the number of symbols of the results of all citations and recalls) of at most 67,108,864.
 #[derive(Clone, Copy, Debug, Drop, PartialEq, Eq)]
 pub enum Cause {
     /// C1: the text has too many bytes.
     TooLong,
-    /// C2: a byte is not allowed in a text; or a `$(` stands inside a comment or is never closed, or a `$)` stands
-    /// outside one.
+    /// C2: a byte is not allowed in a text; or a `$(` stands inside a comment or is never closed,
+    /// or a `$)` stands outside one.
     Text,
     /// C3: the tokens are no list of statements.
     Shape,
-    /// C7: the charter in force does not name the author, and this is the first `$c` or `$a` of the text. If the entry
-    /// is a charter, the number is 0.
+    /// C7: the charter in force does not name the author, and this is the first `$c` or `$a` of the
+    /// text. If the entry is a charter, the number is 0.
     NotChartered { statement: usize },
-    /// C4: the first statement that breaks a rule, and its least rule. A block that is open at the end breaks G10 at
-    /// the number after the last statement.
+    /// C4: the first statement that breaks a rule, and its least rule. A block that is open at the
+    /// end breaks G10 at the number after the last statement.
     Rule { statement: usize, rule: Rule },
     /// C5: the first `$p` whose proof is not right, if no token of the proof has the byte `?`.
     Proof { statement: usize },

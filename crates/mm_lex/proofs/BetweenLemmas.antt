@@ -16,7 +16,8 @@ module _ {text : List ℕ} where
   plain_split (s ∷ front) spans tokens are split =
       with_plain text s (front ++ spans) (front ++ tokens) (and_parts (is_plain (word text s)) _ are).0 (plain_split front spans tokens (and_parts (is_plain (word text s)) _ are).1 split)
 
-  -- plain runs and whole comments before a split: the runs outside the comments are tokens before its tokens
+  -- plain runs and whole comments before a split: the runs outside the comments are tokens before
+  -- its tokens
   parts_split : (first : List Span) (ps : List CommentAndTokens) (spans tokens : List Span) → AllPlain text first → AreCommentsAndTokens text ps → SplitsInto text spans tokens
       → SplitsInto text (first ++ (flat_map all_spans ps ++ spans)) (first ++ (outer ps ++ tokens))
   parts_split first [] spans tokens plain are split = plain_split first spans tokens plain split
@@ -43,7 +44,8 @@ module _ {text : List ℕ} where
   pub between_none : (at : ℕ) → at ≤ length text → AreTokensBetween text at at []
   between_none at within = record { later = omega arith; within = within; passed = []; tokens = []; whole = refl; split = no_runs text; are = refl }
 
-  -- the tokens from one place to a second and then to a third are the tokens from the first to the third
+  -- the tokens from one place to a second and then to a third are the tokens from the first to the
+  -- third
   pub between_on : {from at end : ℕ} {ws vs : List Name} → AreTokensBetween text from at ws → AreTokensBetween text at end vs → AreTokensBetween text from end (ws ++ vs)
   between_on {from} {at} {end} {ws} {vs} has more = record {
     later = omega (arith, has.later, more.later);
@@ -110,11 +112,13 @@ module _ {text : List ℕ} where
   after_as at e are = subst (λ ws. AreTokensAfter text at ws) e are
 
   module _ {from at : ℕ} {ws : List Name} (has : AreTokensBetween text from at ws) where
-    -- the scan from the earlier place on gives the tokens between, and then the result of the scan from the later place on
+    -- the scan from the earlier place on gives the tokens between, and then the result of the scan
+    -- from the later place on
     pub between_scan : scan text (runs_after text from) None ≡ prepend has.tokens (scan text (runs_after text at) None)
     between_scan = ap (λ r. scan text r None) has.whole ∙ scan_split text has.passed has.tokens (runs_after text at) has.split
 
-    -- the words after the earlier place are those between the two places and then those after the later one
+    -- the words after the earlier place are those between the two places and then those after the
+    -- later one
     pub after_on : {vs : List Name} → AreTokensAfter text at vs → AreTokensAfter text from (ws ++ vs)
     after_on {vs} are = (
       has.tokens ++ are.0,
@@ -138,7 +142,8 @@ module _ {text : List ℕ} where
     fails_after (Comment offset) is = stops_on offset is
     fails_after Memory is = tt
 
-    -- the words after the earlier place are those between the two places and then words after the later one
+    -- the words after the earlier place are those between the two places and then words after the
+    -- later one
     pub after_rest : {vs : List Name} → AreTokensAfter text from vs → (us : List Name) × AreTokensAfter text at us × (vs ≡ ws ++ us)
     after_rest {vs} are = by (scan text (runs_after text at) None) refl
       where

@@ -82,7 +82,8 @@ module _ (xs : List ℕ) (long : length xs ≡ 16) (m : ℕ) (of_high : m ≡ ma
   pub none_high : m ≡ 0 → 16 ≡ position_or_len is_high xs
   none_high none = sym (leading_from_mask_l is_high xs (sym of_high ∙ none) ∙ long)
 
--- if one of the first bytes of a text passes a test, the first byte of the text that passes is among them
+-- if one of the first bytes of a text passes a test, the first byte of the text that passes is
+-- among them
 pub first_among : (p : ℕ → Bool) (n : ℕ) (text : List ℕ) → position_or_len p (take n text) < length (take n text) → position_or_len p text ≡ position_or_len p (take n text)
 first_among p n text few =
     ap (position_or_len p) (sym (take-append-drop n text))
@@ -109,7 +110,8 @@ module _ (text : List ℕ) (at : ℕ) (allowed : HasOnlyAllowedBytes text) (room
   next_white : count ≡ prefix_len (λ b. not (is_white b)) next
   next_white = counted ∙ low_is_white next (allowed-take 16 (drop at text) (allowed-drop at text allowed))
 
-  -- the number of bytes before a white one, counted in the next sixteen and, if none of these is white, after them
+  -- the number of bytes before a white one, counted in the next sixteen and, if none of these is
+  -- white, after them
   parts : prefix_len (λ b. not (is_white b)) (drop at text)
       ≡ cond (eqb (prefix_len (λ b. not (is_white b)) next) (length next)) (length next + prefix_len (λ b. not (is_white b)) (drop 16 (drop at text))) (prefix_len (λ b. not (is_white b)) next)
   parts = ap (prefix_len (λ b. not (is_white b))) (sym (take-append-drop 16 (drop at text))) ∙ prefix_len-append (λ b. not (is_white b)) next (drop 16 (drop at text))

@@ -9,7 +9,8 @@ module _ {text : List ℕ} where
   pub adds_none : (at : ℕ) (words : List Name) → at ≤ length text → AddsSymbols text at at words words
   adds_none at words within = record { more = []; whole = sym (append-nil words); between = between_none at within; symbols = refl }
 
-  -- the symbols from one place to a second and then to a third are the symbols from the first to the third
+  -- the symbols from one place to a second and then to a third are the symbols from the first to
+  -- the third
   pub adds_on : {from at end : ℕ} {old new last : List Name} → AddsSymbols text from at old new → AddsSymbols text at end new last → AddsSymbols text from end old last
   adds_on {old = old} adds on = record {
     more = adds.more ++ on.more;

@@ -1,4 +1,5 @@
--- The split at the comments is unique: a list of plain runs ends at the first run that is not plain.
+-- The split at the comments is unique: a list of plain runs ends at the first run that is not
+-- plain.
 use Rattle.mm_lex.proofs.Prelude.{◌≡◌, ℕ, true, false, List, [], ◌∷◌, ◌++◌, flat_map, refl, sym, ◌∙◌, ap, true≢false, append_assoc, and_parts, Span, word, opener, closer, is_plain, AllPlain, CommentAndTokens, all_spans, AreCommentsAndTokens, SplitsInto}
 
 module _ (text : List ℕ) where
@@ -15,7 +16,8 @@ module _ (text : List ℕ) where
   unmarked : (s t : Span) → s ≡ t → is_plain (word text s) ≡ true → is_plain (word text t) ≡ false → ⊥
   unmarked s t e h k = true≢false (sym h ∙ (ap (λ u. is_plain (word text u)) e ∙ k))
 
-  -- a list has only one split into plain runs and a rest that is empty or begins with a run that is not plain
+  -- a list has only one split into plain runs and a rest that is empty or begins with a run that is
+  -- not plain
   same_split : (xs ys rs ss : List Span) → AllPlain text xs → AllPlain text ys → BeginsMarked rs → BeginsMarked ss → xs ++ rs ≡ ys ++ ss → SameSplit xs ys rs ss
   same_split [] [] rs ss h k m n e = record { front = refl; back = e }
   same_split [] (y ∷ ys) [] ss h k m n e = cc

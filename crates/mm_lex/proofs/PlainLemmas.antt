@@ -1,4 +1,5 @@
--- Runs without a `$` are plain, and the runs of bytes that end with a white byte do not depend on the bytes that follow.
+-- Runs without a `$` are plain, and the runs of bytes that end with a white byte do not depend on
+-- the bytes that follow.
 use Rattle.mm_lex.proofs.Prelude.{◌≡◌, ℕ, ◌+◌, ◌-◌, ◌<◌, ◌≤◌, suc, zero, Bool, true, false, List, [], ◌∷◌, ◌++◌, length, take, drop, refl, sym, ◌∙◌, ap, arith, get_or, subst, eqb, eq-eqb, append-nil, get_or-take, get_or-drop, length-take, length-drop, take-append-drop, drop-drop, drop-length, and_from, Nowhere, NoneBefore, Passes, is_byte, Span, Name, is_white, is_empty_or_starts_white, with_byte, runs_from, word, is_plain, AllPlain, runs_after, PassesPlain}
 
 -- ---- where the runs lie
@@ -98,13 +99,15 @@ with_some at false (s ∷ spans) = tt
 runs_some : (at b : ℕ) (bytes : List ℕ) → is_white b ≡ false → IsSome (runs_from at (b ∷ bytes))
 runs_some at b bytes e = rw e (with_some at (is_empty_or_starts_white bytes) (runs_from (at + 1) bytes))
 
--- a visible byte in front of two lists of runs changes only the first list, which may be empty only if the byte is a run of its own
+-- a visible byte in front of two lists of runs changes only the first list, which may be empty only
+-- if the byte is a run of its own
 with_append : (at : ℕ) (t : Bool) (spans more : List Span) → (t ≡ false → IsSome spans) → with_byte at t (spans ++ more) ≡ with_byte at t spans ++ more
 with_append at true spans more some = refl
 with_append at false [] more some = absurd (some refl)
 with_append at false (s ∷ spans) more some = refl
 
--- if the runs of two joined texts are those of one and then those of the other, so are they with one more byte in front
+-- if the runs of two joined texts are those of one and then those of the other, so are they with
+-- one more byte in front
 pub append_step : (at b c : ℕ) (bytes more : List ℕ) (t : Bool) → is_white b ≡ t
     → runs_from (at + 1) ((c ∷ bytes) ++ more) ≡ runs_from (at + 1) (c ∷ bytes) ++ runs_from (at + 1 + length (c ∷ bytes)) more
     → runs_from at ((b ∷ c ∷ bytes) ++ more) ≡ runs_from at (b ∷ c ∷ bytes) ++ runs_from (at + length (b ∷ c ∷ bytes)) more
@@ -116,7 +119,8 @@ append_step at b c bytes more false e k =
     rw e (ap (with_byte at (is_white c)) (k ∙ ap (λ n. runs_from (at + 1) (c ∷ bytes) ++ runs_from n more) same)
     ∙ with_append at (is_white c) (runs_from (at + 1) (c ∷ bytes)) (runs_from (at + length (b ∷ c ∷ bytes)) more) (runs_some (at + 1) c bytes))
 
--- the runs of bytes that end white and of bytes after them are those of the first and then those of the others
+-- the runs of bytes that end white and of bytes after them are those of the first and then those of
+-- the others
 runs_append : (at : ℕ) (bytes more : List ℕ) → EndsWhite bytes → runs_from at (bytes ++ more) ≡ runs_from at bytes ++ runs_from (at + length bytes) more
 runs_append at [] more ends = let same : at ≡ at + 0 = omega arith in ap (λ n. runs_from n more) same
 runs_append at (b ∷ []) more ends = rw ends refl
@@ -167,7 +171,8 @@ module _ (text : List ℕ) (at : ℕ) (start : at ≤ length text) where
         plain = plain_spans text at (at + suc i) within none (runs_from at front) between;
       }
 
-  -- the runs up to a place that is the first or follows a white byte are plain, if there is no `$` before that place
+  -- the runs up to a place that is the first or follows a white byte are plain, if there is no `$`
+  -- before that place
   pub plain_front : (n : ℕ) → at + n ≤ length text → (0 < n → is_white (get_or text (at + (n - 1)) 0) ≡ true)
       → ((k : ℕ) → at ≤ k → k < at + n → get_or text k 0 ≡ 36 → ⊥) → PassesPlain text at (at + n)
   plain_front zero within white none = let same : at + 0 ≡ at = omega arith in rw same plain_none

@@ -36,7 +36,8 @@ IsWordAt-run text s allowed is =
 
 -- ---- inside a comment
 
--- plain runs from one place to a second and then to a third are plain runs from the first to the third
+-- plain runs from one place to a second and then to a third are plain runs from the first to the
+-- third
 pub passes_on : {text : List ℕ} {from at end : ℕ} → PassesPlain text from at → PassesPlain text at end → PassesPlain text from end
 passes_on {text} {from} {at} {end} so more = record {
   passed = so.passed ++ more.passed;
@@ -52,7 +53,8 @@ all_plain-push text (x ∷ xs) s h k = and_from (is_plain (word text x)) _ (and_
 
 module _ {text : List ℕ} {from at : ℕ} (so : PassesPlain text from at) where
   module _ (s : Span) (run : runs_after text at ≡ s ∷ runs_after text s.end) (is : IsPartOfRun text s) (later : at ≤ s.start) where
-    -- the runs from the inside of the comment on: those that were passed, this one, and those after it
+    -- the runs from the inside of the comment on: those that were passed, this one, and those after
+    -- it
     inside_whole : runs_after text from ≡ so.passed ++ s ∷ runs_after text s.end
     inside_whole = so.whole ∙ ap (λ r. so.passed ++ r) run
 
@@ -116,7 +118,8 @@ words_push text false spans s are is = All-push (IsWordAt text) spans s are is
 
 module _ {text : List ℕ} {spans : List Span} {allocation_failed : Bool} {at : ℕ} (so : SplitUpTo text spans allocation_failed at) where
   module _ (s : Span) (run : runs_after text at ≡ s ∷ runs_after text s.end) where
-    -- the scan of the text gives the tokens so far, and then the result of the scan from this run on
+    -- the scan of the text gives the tokens so far, and then the result of the scan from this run
+    -- on
     here : scan text (runs text) None ≡ prepend so.tokens (scan text (s ∷ runs_after text s.end) None)
     here = so.whole ∙ ap (λ r. prepend so.tokens (scan text r None)) run
 

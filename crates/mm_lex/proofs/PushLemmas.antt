@@ -2,18 +2,21 @@
 use Rattle.mm_lex.proofs.Prelude.{◌≡◌, ℕ, true, false, cond, ◌==◌, List, [], ◌∷◌, ◌++◌, length, ◌<◌, Result, Ok, Err, is_ok, is_err, OnOk, refl, list_all, ◌∙◌, ap, arith, append_assoc, list_all-append, Name, words_of, is_word}
 use Rattle.mm_lex.proofs.WordsLemmas.{slice_split-space, some_by_len}
 
--- the words of two texts with a space between them are those of the first and then those of the second
+-- the words of two texts with a space between them are those of the first and then those of the
+-- second
 words_of-both : (a b : ℕ) (text more : List ℕ) → words_of ((a ∷ text) ++ 32 ∷ b ∷ more) ≡ words_of (a ∷ text) ++ words_of (b ∷ more)
 words_of-both a b text more = slice_split-space (a ∷ text) (b ∷ more)
 
 AreWords-both : (ws vs : List Name) → list_all is_word ws ≡ true → list_all is_word vs ≡ true → list_all is_word (ws ++ vs) ≡ true
 AreWords-both ws vs h k = list_all-append is_word ws vs ∙ rw (h, k) refl
 
--- the words of the new text are those of the two others in turn, and each can be a token if this holds in both
+-- the words of the new text are those of the two others in turn, and each can be a token if this
+-- holds in both
 abbrev Next : List ℕ → List ℕ → List ℕ → Type 0
 Next text more new = (words_of new ≡ words_of text ++ words_of more) × (list_all is_word (words_of text) ≡ true → list_all is_word (words_of more) ≡ true → list_all is_word (words_of new) ≡ true)
 
--- if the words of the new text are those of the two others in turn, each can be a token if this holds in both
+-- if the words of the new text are those of the two others in turn, each can be a token if this
+-- holds in both
 next : (text more new : List ℕ) → words_of new ≡ words_of text ++ words_of more → Next text more new
 next text more new e = (e, λ h k. ap (list_all is_word) e ∙ AreWords-both (words_of text) (words_of more) h k)
 

@@ -1,4 +1,5 @@
--- The runs of a text, found from left to right: white bytes are passed over, and a run ends at the next white byte.
+-- The runs of a text, found from left to right: white bytes are passed over, and a run ends at the
+-- next white byte.
 use Rattle.mm_lex.proofs.Prelude.{◌≡◌, ℕ, ◌+◌, ◌-◌, ◌<◌, ◌≤◌, suc, Bool, true, false, not, cond, nat_lt, List, [], ◌∷◌, length, take, drop, Some, None, refl, list_all, position, position_or_len, unwrap_or, sym, ◌∙◌, ap, arith, ltb-true, ltb-false, add-zero, length-drop, drop-drop, drop-length, prefix_len-le-length, Span, is_white, is_empty_or_starts_white, with_byte, runs_from, IsPartOfRun}
 
 -- ---- the first place that passes a test
@@ -50,7 +51,8 @@ all_before p q same (b ∷ xs) = before_step p q b xs (position_or_len p xs) (p 
 abbrev pub is_shown : ℕ → Bool
 is_shown b = not (is_white b)
 
--- if the runs are the same without the white bytes at the front, so are they with one more byte in front
+-- if the runs are the same without the white bytes at the front, so are they with one more byte in
+-- front
 white_step : (at b : ℕ) (bytes : List ℕ) (n : ℕ) (t : Bool) → is_white b ≡ t → runs_from (at + 1) bytes ≡ runs_from (at + 1 + n) (drop n bytes)
     → runs_from at (b ∷ bytes) ≡ runs_from (at + cond (not (not t)) (1 + n) 0) (drop (cond (not (not t)) (1 + n) 0) (b ∷ bytes))
 white_step at b bytes n true e k =
@@ -72,7 +74,8 @@ pub record BeginsShown (bytes : List ℕ) : Type 0 where
   pub whole : bytes ≡ first ∷ rest
   pub shown : is_white first ≡ false
 
--- if the list without its white bytes begins with one that is not white, so does the list with one more byte in front
+-- if the list without its white bytes begins with one that is not white, so does the list with one
+-- more byte in front
 shown_step : (b : ℕ) (bytes : List ℕ) (n : ℕ) (t : Bool) → is_white b ≡ t → (n < length bytes → BeginsShown (drop n bytes))
     → cond (not (not t)) (1 + n) 0 < length (b ∷ bytes) → BeginsShown (drop (cond (not (not t)) (1 + n) 0) (b ∷ bytes))
 shown_step b bytes n true e k inside =

@@ -1,4 +1,5 @@
--- The result of the scan of a list of runs is right: it is the tokens of a split, or the offset of the comment fault.
+-- The result of the scan of a list of runs is right: it is the tokens of a split, or the offset of
+-- the comment fault.
 use Rattle.mm_lex.proofs.Prelude.{◌≡◌, ℕ, Bool, true, false, ◌⊎◌, List, [], ◌∷◌, ◌++◌, flat_map, Option, Some, None, Ok, Err, refl, sym, ◌∙◌, ap, inl, inr, append_assoc, bytes_eq-Decides, and_from, Span, name_eq, word, opener, closer, is_plain, AllPlain, CommentAndTokens, all_spans, SplitsInto, IsCommentFaultOfRuns}
 use Rattle.mm_lex.proofs.ScanRuns.{Outcome, prepend, outside, inside, scan}
 
@@ -152,7 +153,8 @@ module _ (text : List ℕ) where
   -- ---- one more run
 
   module _ (s : Span) (spans : List Span) where
-    -- if the first run is a `$(`, a right result of the scan inside its comment is right for all the runs
+    -- if the first run is a `$(`, a right result of the scan inside its comment is right for all
+    -- the runs
     opened : word text s ≡ opener → (r : Outcome) → Meaning spans (Some s.start) r → Meaning (s ∷ spans) None r
     opened is (Ok tokens) m =
         splits_as _ _ tokens (ap (λ r. s ∷ r) m.whole) (with_comment s m.end m.inner m.rest tokens is m.plain m.ends m.split)
@@ -198,7 +200,8 @@ module _ (text : List ℕ) where
         inl (record { before = []; tokens = []; at = s; rest = spans; whole = refl; split = no_runs; closes = (bytes_eq-Decides _ _).0 f; place = refl })
     out_step false false e f r t m k = passed (plain s e f) t k
 
-    -- if the first run is a `$)` inside a comment, a right result of the scan after it is right for all the runs
+    -- if the first run is a `$)` inside a comment, a right result of the scan after it is right for
+    -- all the runs
     closed : word text s ≡ closer → (from : ℕ) (r : Outcome) → Meaning spans None r → Meaning (s ∷ spans) (Some from) r
     closed is from (Ok tokens) m = record { inner = []; end = s; rest = spans; whole = refl; plain = refl; ends = is; split = m }
     closed is from (Err offset) m = inr (inr (record { inner = []; end = s; rest = spans; whole = refl; plain = refl; ends = is; stops = m }))

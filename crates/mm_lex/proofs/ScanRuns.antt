@@ -1,5 +1,5 @@
--- The split at the comments, read once from left to right: the scan gives tokens exactly if there is a split,
--- and otherwise the offset of the comment fault.
+-- The split at the comments, read once from left to right: the scan gives tokens exactly if there
+-- is a split, and otherwise the offset of the comment fault.
 use Rattle.mm_lex.proofs.Prelude.{◌≡◌, ℕ, Bool, true, false, ◌||◌, List, [], ◌∷◌, ◌++◌, flat_map, Option, Some, None, Result, Ok, Err, refl, sym, ◌∙◌, ap, inl, inr, append_assoc, append-nil, and_parts, or_parts, not-true, Span, name_eq, word, opener, closer, is_plain, AllPlain, CommentAndTokens, all_spans, IsCommentAndTokens, AreCommentsAndTokens, SplitsInto, IsStrayCloser, IsNestedOpener, IsUnclosed, IsCommentFaultOfRuns}
 
 -- the tokens, or the offset at which the scan stops

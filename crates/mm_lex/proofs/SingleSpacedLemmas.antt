@@ -1,4 +1,5 @@
--- Symbols with one space between two: a spaced prefix has this form, and the words of bytes of this form are symbols.
+-- Symbols with one space between two: a spaced prefix has this form, and the words of bytes of this
+-- form are symbols.
 use Rattle.mm_lex.proofs.Prelude.{◌≡◌, ℕ, ◌<◌, zero, suc, Bool, true, false, not, cond, ◌&&◌, ◌||◌, ◌==◌, List, [], ◌∷◌, take, refl, list_all, slice_split, onto_first, sym, ◌∙◌, ap, arith, and_from, and_parts, Name, is_white, is_visible, is_allowed, is_empty_or_starts_white, is_symbol, has_byte, is_empty, HasOnlyAllowedBytes, spaced_prefix_len, ends_here, ends_between}
 use Rattle.mm_lex.proofs.WordsLemmas.{first_part}
 
@@ -33,7 +34,8 @@ above_dollar d next h = (grind (arith, h), grind (arith, h))
 other_byte : (c next : ℕ) → is_allowed c ≡ true → is_space c ≡ false → ends_between c next ≡ false → is_white c ≡ false
 other_byte c next h e goes = grind (arith, h, e, goes)
 
--- a byte of a symbol before single-spaced bytes, with or without a space between, makes single-spaced bytes
+-- a byte of a symbol before single-spaced bytes, with or without a space between, makes
+-- single-spaced bytes
 single_spaced_cons : (b c : ℕ) (bytes : List ℕ) (t : Bool) → is_space c ≡ t → is_symbol_byte b ≡ true → cond t (is_single_spaced bytes) (is_single_spaced (c ∷ bytes)) ≡ true → is_single_spaced (b ∷ c ∷ bytes) ≡ true
 single_spaced_cons b c bytes t e h k = and_from (is_symbol_byte b) _ h (ap (λ u. cond u (is_single_spaced bytes) (is_single_spaced (c ∷ bytes))) e ∙ k)
 
@@ -49,7 +51,8 @@ prefix_off b bytes e = rw e refl
 abbrev rest_of : List ℕ → List ℕ
 rest_of bytes = take (spaced_prefix_len bytes) bytes
 
--- a byte that is not white, and at which the symbols do not end, and the spaced prefix after it are single-spaced
+-- a byte that is not white, and at which the symbols do not end, and the spaced prefix after it are
+-- single-spaced
 abbrev PrefixIsSingleSpaced : ℕ → List ℕ → Type 0
 PrefixIsSingleSpaced b bytes = is_white b ≡ false → ends_here (b ∷ bytes) ≡ false → is_single_spaced (b ∷ rest_of bytes) ≡ true
 
@@ -67,7 +70,8 @@ goes_next : (d : ℕ) (bytes : List ℕ) → 36 < d → ends_here (d ∷ bytes) 
 goes_next d [] h = (above_dollar d 32 h).0
 goes_next d (e ∷ bytes) h = (above_dollar d e h).0
 
--- the claim for three bytes or more, from the claim without the first byte and the claim without the first two
+-- the claim for three bytes or more, from the claim without the first byte and the claim without
+-- the first two
 two_more : (b c d : ℕ) (bytes : List ℕ) → is_symbol_byte b ≡ true → is_allowed c ≡ true → PrefixIsSingleSpaced c (d ∷ bytes) → PrefixIsSingleSpaced d bytes
     → (t : Bool) → ends_here (c ∷ d ∷ bytes) ≡ t → is_single_spaced (b ∷ rest_of (c ∷ d ∷ bytes)) ≡ true
 two_more b c d bytes shown allowed from goes_on true e = rw (prefix_off c (d ∷ bytes) e) shown

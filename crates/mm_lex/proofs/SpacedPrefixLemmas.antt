@@ -6,7 +6,8 @@ use Rattle.mm_lex.proofs.Prelude.{◌≡◌, ℕ, ◌+◌, ◌<◌, ◌≤◌, z
 abbrev set : Bool → ℕ
 set t = cond t 255 0
 
--- the top bit of a lane is set exactly if the byte is low, is `$`, or is a space with a byte up to `$` after it
+-- the top bit of a lane is set exactly if the byte is low, is `$`, or is a space with a byte up to
+-- `$` after it
 lane : (low dollar space next : Bool) → top 7 (bit_or (bit_or (set low) (set dollar)) (bit_and (set space) (set next))) ≡ (low || dollar || (space && next))
 lane true true true true = refl
 lane true true true false = refl
@@ -89,13 +90,15 @@ lanes_count k xs = prefix_len not (lanes_end (take k xs) (take k (drop 1 xs)))
 abbrev Counts : ℕ → List ℕ → ℕ → Type 0
 Counts k xs n = (n < k → spaced_prefix_len xs ≡ n) × (k ≤ n → spaced_prefix_len xs ≡ k + spaced_prefix_len (drop k xs))
 
--- with one more byte in front, the spaced prefix still ends in the lanes, or still continues after them
+-- with one more byte in front, the spaced prefix still ends in the lanes, or still continues after
+-- them
 counts_step : (t : Bool) (k s n r : ℕ) → (n < k → s ≡ n) × (k ≤ n → s ≡ k + r)
     → (cond (not t) (1 + n) 0 < suc k → cond t zero (suc s) ≡ cond (not t) (1 + n) 0) × (suc k ≤ cond (not t) (1 + n) 0 → cond t zero (suc s) ≡ suc k + r)
 counts_step true k s n r h = (λ lt. refl, λ le. absurd (omega (arith, le)))
 counts_step false k s n r h = (λ lt. omega (arith, h.0 (omega (arith, lt))), λ le. omega (arith, h.1 (omega (arith, le))))
 
--- the count in the first lanes is the length of the spaced prefix, if it ends there; otherwise it continues after them
+-- the count in the first lanes is the length of the spaced prefix, if it ends there; otherwise it
+-- continues after them
 counts : (k : ℕ) (xs : List ℕ) → k < length xs → Counts k xs (lanes_count k xs)
 counts zero xs room = (λ lt. absurd (omega (arith, lt)), λ le. omega arith)
 counts (suc k) [] room = absurd (omega (arith, room))
@@ -128,7 +131,8 @@ one_step : (t : Bool) (s : ℕ) → t ≡ false → cond t zero (suc s) ≡ suc 
 one_step true s e = cc
 one_step false s e = refl
 
--- if the symbols do not end at the first byte, the spaced prefix is that byte and the spaced prefix after it
+-- if the symbols do not end at the first byte, the spaced prefix is that byte and the spaced prefix
+-- after it
 prefix_byte : (xs : List ℕ) → 0 < length xs → ends_here xs ≡ false → spaced_prefix_len xs ≡ suc (spaced_prefix_len (drop 1 xs))
 prefix_byte [] some e = absurd (omega (arith, some))
 prefix_byte (b ∷ xs) some e = one_step (ends_here (b ∷ xs)) (spaced_prefix_len xs) e

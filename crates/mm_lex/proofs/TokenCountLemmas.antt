@@ -22,7 +22,8 @@ module _ (text : List ℕ) where
       let here : drop at text ≡ b ∷ drop (at + 1) text = drop-cons text at 0 inside ∙ ap (λ r. b ∷ r) rest in
       subst (λ bytes. length (runs_from at bytes) ≤ 1 + length (runs_after text (at + 1))) (sym here) (byte_few at b (drop (at + 1) text) (is_white b) refl)
 
-  -- the runs after a place are at most as many more than those after a later place as there are bytes between the two
+  -- the runs after a place are at most as many more than those after a later place as there are
+  -- bytes between the two
   runs_few : (n at : ℕ) → at + n ≤ length text → length (runs_after text at) ≤ n + length (runs_after text (at + n))
   runs_few zero at within = let same : at + 0 ≡ at = omega arith in rw same (omega arith)
   runs_few (suc n) at within =

@@ -95,7 +95,8 @@ no_more_runs : (at b : ℕ) (more : List ℕ) (t : Bool) → is_white b ≡ t �
 no_more_runs at b more true e white = rw e refl
 no_more_runs at b more false e white = rw (e, white) refl
 
--- the runs of bytes before others that start white are those of the first and then those of the others
+-- the runs of bytes before others that start white are those of the first and then those of the
+-- others
 runs_before_white : (at : ℕ) (bytes more : List ℕ) → is_empty_or_starts_white more ≡ true → runs_from at (bytes ++ more) ≡ runs_from at bytes ++ runs_from (at + length bytes) more
 runs_before_white at [] more white = let same : at ≡ at + 0 = omega arith in ap (λ n. runs_from n more) same
 runs_before_white at (b ∷ []) more white = no_more_runs at b more (is_white b) refl white
@@ -143,7 +144,8 @@ pub record IsFrontOf (text : List ℕ) (at n : ℕ) (bytes : List ℕ) : Type 0 
   pub symbols : list_all is_symbol (words_of bytes) ≡ true
   pub plain : AllPlain text spans
 
--- the text begins with the runs of a spaced prefix, if a white byte or the end of the text follows it
+-- the text begins with the runs of a spaced prefix, if a white byte or the end of the text follows
+-- it
 pub prefix_front : (text : List ℕ) (at n : ℕ) → HasOnlyAllowedBytes (drop at text) → is_empty_or_starts_white (drop at text) ≡ false → n ≡ spaced_prefix_len (drop at text) → 0 < n
     → at + n ≤ length text → is_empty_or_starts_white (drop (at + n) text) ≡ true → IsFrontOf text at n (take n (drop at text))
 prefix_front text at n allowed shown e some within white =

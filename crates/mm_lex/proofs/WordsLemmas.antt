@@ -25,7 +25,8 @@ split_step : (t : Bool) (b : ℕ) (parts more : List Name) (x : List ℕ) (xs : 
 split_step true b parts more x xs e = refl
 split_step false b parts more x xs e = rw e refl
 
--- the split of two texts with a space between them is the parts of the first and then those of the second
+-- the split of two texts with a space between them is the parts of the first and then those of the
+-- second
 pub slice_split-space : (text more : List ℕ) → slice_split is_space (text ++ 32 ∷ more) ≡ slice_split is_space text ++ slice_split is_space more
 slice_split-space [] more = refl
 slice_split-space (b ∷ text) more =

@@ -1,4 +1,5 @@
--- Why no statement follows a place, from the tokens of the statement so far and the fault of its next part.
+-- Why no statement follows a place, from the tokens of the statement so far and the fault of its
+-- next part.
 use Rattle.mm_read.proofs.Words.{◌≡◌, ℕ, Bool, ◌+◌, ◌≤◌, true, false, List, [], ◌∷◌, ◌++◌, length, Some, None, codes, list_all, option_and_then, sym, ◌∙◌, ap, arith, refl, subst, append_assoc, length-append, LexFault, Name, name_eq, is_symbol, is_label, AreTokensBetween, AreTokensAfter, IsCommentFaultAfter, after_rest, after_unique, stops_after, between_on, ReadFault, Text, Shape, Memory, IsShapeFault, read_fault, BeginsBrokenList, HasBrokenList, IsListFault, StartsOtherwise, IsTokenFault, IsFaultAfter}
 use Rattle.mm_lex.specs.declared.fault.LexFault.TheVariants as lex
 use Rattle.mm_read.proofs.ReaderStates.{ReaderState, between, labelled, listing, floating, proving, step, go}
@@ -41,7 +42,8 @@ module _ (text : List ℕ) where
         let r : (us : List Name) × AreTokensAfter text end us × (tokens ≡ t ∷ us) = after_rest has are in
         stuck (done ++ tokens) done tokens p refl goes inside (subst (Stuck p) (sym r.2) stop)
 
-    -- if the machine stops at each token of another kind, the fault of the next token is the fault of the statement
+    -- if the machine stops at each token of another kind, the fault of the next token is the fault
+    -- of the statement
     pub token_after : (number : ℕ) (fits : Name → Bool) (fault : ReadFault) → number ≡ length done + 1 → ((t : Name) → fits t ≡ false → step p t ≡ None)
         → IsTokenFault text at number fits fault → IsFaultAfter text done at fault
     token_after number fits (Text fault) long stop is = is

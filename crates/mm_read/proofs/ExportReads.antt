@@ -1,5 +1,5 @@
--- The export form of statements reads as these statements: it is their tokens, each followed by one white byte, and no
--- token of a statement begins or ends a comment.
+-- The export form of statements reads as these statements: it is their tokens, each followed by one
+-- white byte, and no token of a statement begins or ends a comment.
 use Rattle.mm_read.proofs.Words.{◌≡◌, ℕ, ◌+◌, ◌-◌, Bool, true, false, not, ◌&&◌, ◌||◌, cond, List, [], ◌∷◌, ◌++◌, length, take, map, codes, list_all, sym, ◌∙◌, ap, arith, refl, true≢false, append_assoc, length-append, append-nil, take-append_seam, drop-append_seam, and_parts, and_from, nat_tests, list_all-map, list_all-append, word-visible, Span, Name, is_empty, is_white, is_visible, is_allowed, is_symbol, is_label, is_label_byte, has_byte, runs, runs_from, is_empty_or_starts_white, with_byte, word, spaced, is_word, is_plain, words, Stmt, Open, Close, Const, Var, Disj, Float, Ess, Axiom, Prove, Database, is_shaped, are_symbols, has_two, stmt_tokens, tokens_of, export_of, white_run}
 use Rattle.mm_read.specs.Laws as laws
 use Rattle.mm_read.proofs.StatementsLemmas.{symbol_plain, label_plain, symbols_of, plain_is_no_key}

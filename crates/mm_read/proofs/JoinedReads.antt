@@ -1,6 +1,7 @@
--- Two joined texts read as the statements of the first and then those of the second, if no word continues from the first into
--- the second: the runs of the joined text are those of the first and then those of the second, runs with the same words are
--- split at the same comments, and two splits join into one.
+-- Two joined texts read as the statements of the first and then those of the second, if no word
+-- continues from the first into the second: the runs of the joined text are those of the first and
+-- then those of the second, runs with the same words are split at the same comments, and two splits
+-- join into one.
 use Rattle.mm_read.proofs.Words.{◌≡◌, ℕ, ◌+◌, ◌-◌, ◌<◌, suc, Bool, true, false, ◌||◌, if◌then◌else◌, List, [], ◌∷◌, ◌++◌, length, take, drop, Option, Some, None, Ok, Err, refl, list_all, sym, ◌∙◌, ap, arith, subst, true≢false, drop-append_seam, and_from, flat_map-append, drop-drop, map-append, list_all-append, Span, Name, name_eq, is_white, is_allowed, is_empty_or_starts_white, with_byte, runs, runs_from, word, opener, closer, SplitsInto, words, append_step, Outcome, outside, inside, prepend, scan, scan-split, splits_as, split-scan, splits_join, is_shaped, stmt_tokens, tokens_of, HasTokens, joins_no_words}
 use Rattle.std.proofs.lemmas.List.{append-nil}
 use Rattle.mm_read.specs.Laws as laws
@@ -167,7 +168,8 @@ module _ (text other : List ℕ) where
   abbrev IsSplitAs : List Span → List Name → Type 0
   IsSplitAs others ws = (us : List Span) × SplitsInto other others us × (words other us ≡ ws)
 
-  -- if the runs of one text split into tokens, runs of the other with the same words split into tokens with the same words
+  -- if the runs of one text split into tokens, runs of the other with the same words split into
+  -- tokens with the same words
   same_split_words : (spans tokens others : List Span) → SplitsInto text spans tokens → words text spans ≡ words other others → IsSplitAs others (words text tokens)
   same_split_words spans tokens others split same =
       by (scan other others None) refl (subst (λ r. Alike r (scan other others None)) (scan-split text spans tokens split) (scans_alike spans others None None tt same))
@@ -195,7 +197,8 @@ module _ (text other : List ℕ) (apart : joins_no_words text other ≡ true) wh
       words-runs other [] 0 other (sym (append-nil other))
       ∙ sym (words-runs both [] (length text) other (drop-append_seam text other ∙ sym (append-nil other)))
 
-  -- the runs of the joined text are those of the first text and then those of the second, moved to after the first
+  -- the runs of the joined text are those of the first text and then those of the second, moved to
+  -- after the first
   whole : runs both ≡ runs text ++ later
   whole = let none : 0 + length text ≡ length text = omega arith in runs-joined 0 text other apart ∙ ap (λ n. runs text ++ runs_from n other) none
 

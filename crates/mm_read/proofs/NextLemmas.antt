@@ -1,5 +1,5 @@
--- Statement by statement, from place to place: the tokens between two places read as a statement, and those before as the
--- statements so far.
+-- Statement by statement, from place to place: the tokens between two places read as a statement,
+-- and those before as the statements so far.
 use Rattle.mm_read.proofs.Words.{◌≡◌, ℕ, ◌+◌, ◌<◌, true, List, [], ◌∷◌, ◌++◌, length, codes, Result, Ok, Err, IfOk, IfErr, refl, list_all, sym, ◌∙◌, ap, arith, length-append, append-nil, and_from, Name, is_symbol, is_label, HasOnlyAllowedBytes, AreTokensBetween, AreTokensAfter, IsTokenCountAfter, between_on, between_as, after_on, after_as, after_unique, Stmt, Float, Ess, Axiom, Prove, Database, are_symbols, is_shaped, stmt_tokens, tokens_of, Reads, IsNext, IsOneMore, ReadsUpTo}
 use Rattle.mm_read.proofs.StatementsLemmas.{append_middle}
 use Rattle.mm_read.proofs.StatementByStatement.{tokens_of-append, shaped-append}

@@ -1,5 +1,5 @@
--- The answer of the reader is the only one: a text has tokens or one fault of the tokens, and its tokens read as one list of
--- statements or have one misplaced token.
+-- The answer of the reader is the only one: a text has tokens or one fault of the tokens, and its
+-- tokens read as one list of statements or have one misplaced token.
 use Rattle.mm_read.proofs.Words.{◌≡◌, ℕ, ◌⊎◌, List, Result, Ok, Err, MatchResult, IfOk, IfErr, IsErrAnd, sym, ◌∙◌, ap, refl, subst, inl, inr, Name, HasOnlyAllowedBytes, words, IsFirstBadByte, IsCommentFault, AreTokensAfter, HasOnlyAllowedBytes-no_fault, AreTokens-unique, AreTokens-no_comment_fault, IsCommentFault-unique, ReadFault, Text, Shape, Memory, Database, tokens_of, HasTokens, Reads, IsShapeFault, HasShapeFault, IsReadFault, IsFaultOf}
 use Rattle.mm_lex.specs.declared.fault.LexFault.TheVariants as lex
 use Rattle.mm_read.proofs.OneStatementList.{one_statement_list}

@@ -1,5 +1,5 @@
--- Each list of tokens reads as at most one list of statements: the statement at the front of the tokens is found from
--- the left, and it is the one that was written there.
+-- Each list of tokens reads as at most one list of statements: the statement at the front of the
+-- tokens is found from the left, and it is the one that was written there.
 use Rattle.mm_read.proofs.Words.{◌≡◌, true, ◌&&◌, cond, List, [], ◌∷◌, ◌++◌, Option, Some, None, codes, refl, list_all, sym, ◌∙◌, ap, and_parts, some_pair_parts, Name, name_eq, is_symbol, is_label, has_byte, Stmt, Open, Close, Const, Var, Disj, Float, Ess, Axiom, Prove, is_shaped, are_symbols, has_two, stmt_tokens, tokens_of, Database}
 use Rattle.mm_read.specs.Laws as laws
 use Rattle.mm_read.proofs.StatementsLemmas.{symbol_plain, label_plain, symbols_of, append_middle}

@@ -11,7 +11,8 @@ abbrev pub Stuck : ReaderState → List Name → Type 0
 Stuck p [] = Unit {0}
 Stuck p (t ∷ rest) = step p t ≡ None
 
--- if the machine is inside a statement, and no token is left or it stops at the next one, the fault is there
+-- if the machine is inside a statement, and no token is left or it stops at the next one, the fault
+-- is there
 pub stuck : (tokens done rest : List Name) (p : ReaderState) → tokens ≡ done ++ rest → go between done ≡ Some p → (p ≡ between → ⊥) → Stuck p rest → IsShapeFault tokens (length done + 1)
 stuck tokens done [] p whole e inside stop = subst (λ ts. IsShapeFault ts (length done + 1)) (sym (whole ∙ append-nil done)) (ends_inside done p e inside)
 stuck tokens done (t ∷ rest) p whole e inside stop = subst (λ ts. IsShapeFault ts (length done + 1)) (sym whole) (stops_at done rest t p e stop)

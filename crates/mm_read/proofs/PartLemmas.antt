@@ -37,7 +37,8 @@ module _ {text : List ℕ} (at : ℕ) where
       };
     }
 
-    -- a list is broken at the token after the symbols, if they are too few or this token does not end the list
+    -- a list is broken at the token after the symbols, if they are too few or this token does not
+    -- end the list
     pub stops_otherwise : (s : Span) → EndsSymbols text at ws s → (length ws < least) ⊎ (name_eq (word text s) end ≡ false) → HasBrokenList text at number least end (number + length ws)
     stops_otherwise s is why = record {
       few = omega (arith, between_few text at s.end (ws ++ word text s ∷ []) is.between, length-append ws (word text s ∷ []), is.token.within);

@@ -1,4 +1,5 @@
--- The machine of `ReaderStates` passes over each list of statements, and is then between statements again.
+-- The machine of `ReaderStates` passes over each list of statements, and is then between statements
+-- again.
 use Rattle.mm_read.proofs.Words.{◌≡◌, ℕ, ◌≤◌, zero, suc, true, false, ◌&&◌, cond, List, [], ◌∷◌, ◌++◌, length, Some, None, codes, list_all, option_and_then, sym, ◌∙◌, ap, arith, refl, true≢false, append_assoc, and_parts, Name, name_eq, is_symbol, is_label, has_byte, Stmt, Open, Close, Const, Var, Disj, Float, Ess, Axiom, Prove, Database, is_shaped, are_symbols, has_two, stmt_tokens, tokens_of}
 use Rattle.mm_read.proofs.StatementsLemmas.{label_plain, symbols_of, append_middle, plain_is_no_key}
 use Rattle.mm_read.proofs.ReaderStates.{between, labelled, listing, floating, proving, step, go}

@@ -1,11 +1,11 @@
--- A machine that reads the tokens of statements one by one, and continues exactly as long as some list of statements begins
--- with the tokens read.
+-- A machine that reads the tokens of statements one by one, and continues exactly as long as some
+-- list of statements begins with the tokens read.
 use Rattle.mm_read.proofs.Words.{◌≡◌, ℕ, ◌≤◌, zero, suc, Bool, true, false, ◌&&◌, cond, List, [], ◌∷◌, ◌++◌, length, Option, Some, None, codes, list_all, option_and_then, sym, ◌∙◌, ap, arith, refl, subst, and_parts, option_and_then_some, same_Some, Name, name_eq, is_symbol, is_label, Stmt, Open, Close, Const, Var, Disj, Float, Ess, Axiom, Prove, Database, AreShaped, is_shaped, stmt_tokens, tokens_of, IsStatementsPrefix}
 pub use Rattle.mm_lex.proofs.NameLemmas.{same_name as same}
 use Rattle.mm_read.proofs.StatementsLemmas.{append_middle, are_symbols_of, has_two_of}
 
--- the part that is expected next: a statement, the keyword after a label, at least (or exactly) so many symbols and then `$.`,
--- at least so many symbols and then `$=`
+-- the part that is expected next: a statement, the keyword after a label, at least (or exactly) so
+-- many symbols and then `$.`, at least so many symbols and then `$=`
 pub data ReaderState : Type 0 where
   between : ReaderState
   labelled : ReaderState

@@ -1,4 +1,5 @@
--- Small texts, worked out: the statements that they read as, their export form, and their misplaced tokens.
+-- Small texts, worked out: the statements that they read as, their export form, and their misplaced
+-- tokens.
 use Rattle.mm_read.proofs.Words.{◌≡◌, ℕ, [], ◌∷◌, ◌++◌, false, codes, refl, Span, Const, Float, Axiom, Prove, Database, is_shaped, Reads, IsShapeFault, line_of, export_of, with_proof}
 use Rattle.mm_read.proofs.ReaderStates.{between, labelled, listing, floating, proving}
 use Rattle.mm_read.proofs.ShapeFaults.{stops_at, ends_inside}

@@ -1,4 +1,5 @@
--- Each list of tokens reads as statements, or has one misplaced token: the one at which the machine of `ReaderStates` stops.
+-- Each list of tokens reads as statements, or has one misplaced token: the one at which the machine
+-- of `ReaderStates` stops.
 use Rattle.mm_read.proofs.Words.{◌≡◌, ℕ, ◌+◌, ◌-◌, ◌<◌, ◌≤◌, zero, suc, Bool, true, false, ◌⊎◌, List, [], ◌∷◌, ◌++◌, length, take, Option, Some, None, list_all, option_and_then, sym, ◌∙◌, ap, arith, refl, subst, inl, inr, append_assoc, ltb-true, ltb-false, nat_lt, append-nil, take_all, take-append_seam, take-append-add, same_Some, Name, Database, AreShaped, is_shaped, tokens_of, IsStatementsPrefix, IsShapeFault}
 use Rattle.mm_read.specs.Laws as laws
 use Rattle.mm_read.proofs.ReaderStates.{ReaderState, between, labelled, listing, floating, proving, step, go, go-append, go_back, can_go_on}

@@ -1,5 +1,5 @@
--- A list of statements and the tokens after it: these fit after the statements exactly if they fit alone, and a fault of them
--- is a fault of the whole.
+-- A list of statements and the tokens after it: these fit after the statements exactly if they fit
+-- alone, and a fault of them is a fault of the whole.
 use Rattle.mm_read.proofs.Words.{◌≡◌, ℕ, ◌+◌, ◌-◌, ◌<◌, ◌⊎◌, suc, zero, true, List, [], ◌∷◌, ◌++◌, length, take, list_all, sym, ◌∙◌, ap, arith, refl, subst, inl, inr, append_assoc, length-append, take-append-add, and_parts, Name, Stmt, Open, Close, Const, Var, Disj, Float, Ess, Axiom, Prove, Database, is_shaped, stmt_tokens, tokens_of, IsStatementsPrefix, IsShapeFault}
 use Rattle.mm_read.proofs.OneStatementList.{same_front}
 
@@ -25,7 +25,8 @@ no_tokens (Ess label expr) rest e = absurd cc
 no_tokens (Axiom label expr) rest e = absurd cc
 no_tokens (Prove label expr proof) rest e = absurd cc
 
--- if the tokens of statements begin with the tokens of others, the tokens left are those of some statements
+-- if the tokens of statements begin with the tokens of others, the tokens left are those of some
+-- statements
 after_prefix : (S T : Database) (rest : List Name) → list_all is_shaped S ≡ true → list_all is_shaped T ≡ true → tokens_of T ≡ tokens_of S ++ rest
     → (U : Database) × (list_all is_shaped U ≡ true) × (tokens_of U ≡ rest)
 after_prefix [] T rest hS hT e = (T, hT, e)

@@ -10,7 +10,8 @@ use std::{env, io};
 
 fn main(rt: HostRuntime) -> ExitCode {
     let mut output = rt.stdout();
-    // Standard error, for help, explanations and the text of a bad command line. A `Fault` is printed on `output`.
+    // Standard error, for help, explanations and the text of a bad command line. A `Fault` is
+    // printed on `output`.
     let mut stderr = rt.stderr();
     // As `run` returns it: 1 after a refusal or a failed write, 2 for a bad command line.
     let status = match arguments(&rt) {

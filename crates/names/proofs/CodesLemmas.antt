@@ -80,7 +80,8 @@ added-name old new x n e h =
     let l = ap length h ∙ length-append old (x ∷ []) in
     (omega (arith, l, e), ap (λ r. name_at r n) h ∙ (ap (name_at (old ++ x ∷ [])) e ∙ name_at-last old x))
 
--- one more element in front: the search ends before the end if this one passes, or if it did so before
+-- one more element in front: the search ends before the end if this one passes, or if it did so
+-- before
 pub lt_step : (b : Bool) (r l : ℕ) (q : Bool) → nat_lt r l ≡ q → nat_lt (cond (not b) (1 + r) 0) (suc l) ≡ (b || q)
 lt_step true r l q h = grind (arith)
 lt_step false r l true h = grind (arith, h)

@@ -1,4 +1,5 @@
--- The code of a name in the overflow stays the same when that of another name is written or removed.
+-- The code of a name in the overflow stays the same when that of another name is written or
+-- removed.
 use Rattle.names.proofs.Words.{◌≡◌, ◌≢◌, ◌<◌, ◌≤◌, Bool, true, false, List, ℕ, Option, length, nat_lt, if◌then◌else◌, refl, sym, ◌∙◌, ap, arith, ◌⊎◌, inl, inr, Vec, Global, BTreeMap, UpdatesBy, get_by, IsKeyTest, AreApart, lookup, eq_by_cmp_equiv, Equal-is, slice_cmp, nat_list_cmp_total, nat_cmp, is_eq, bytes_eq, cases_lt, exact_unsigned, is_eq-slice_cmp, bytes_eq-Decides, Name, AreBytes, key_of, code_in_overflow, LEAST_HASHED_LEN, Overflow}
 use Rattle.std.specs.Map.{KeepsOthers}
 use Rattle.names.proofs.KeysLemmas.{key-same}

@@ -1,5 +1,5 @@
 -- The table holds the names also after one more is added, and after that fails.
-use Rattle.names.proofs.Words.{◌≡◌, ◌≢◌, ℕ, ◌+◌, ◌<◌, ◌≤◌, ◌^◌, List, [], ◌∷◌, ◌++◌, false, length, take, get_or, Some, sym, ◌∙◌, ap, subst, arith, slice_set, length-append, Name, has_name, name_at, AreDistinct, AreBytes, key_of, code_in_overflow, IN_OVERFLOW, NameKeys, Slot, NO_NAME, slot_of, IsFree, AreReachable, IsTable}
+use Rattle.names.proofs.Words.{◌≡◌, ◌≢◌, ℕ, ◌+◌, ◌<◌, ◌≤◌, ◌^◌, List, [], ◌∷◌, ◌++◌, false, length, take, get_or, Some, sym, ◌∙◌, ap, subst, arith, slice_set, length-append, Name, has_name, name_at, AreDistinct, AreBytes, key_of, code_in_overflow, IN_OVERFLOW, NameKeys, Slot, NO_NAME, slot_of, IsFirstFreeSlot, AreReachable, IsTable}
 use Rattle.names.proofs.CodesLemmas.{name_at-last}
 use Rattle.names.proofs.DistinctLemmas.{distinct-push, distinct-take, length-take-below}
 use Rattle.names.proofs.TableLemmas.{put-reachable}
@@ -35,7 +35,7 @@ reachable-all slots b names name n count reachable =
 -- a name is added that has a slot
 pub names-put : (slots : List Slot) (a b : NameKeys) (names new : List Name) (name : Name) (n key at : ℕ) → new ≡ names ++ name ∷ [] → Holds slots a names → n ≡ length names → n < NO_NAME → has_name name names ≡ false
     → b.overflow ≡ a.overflow → ((k : ℕ) → k < n → get_or b.keys.items k 0 ≡ get_or a.keys.items k 0) → n < length b.keys.items → get_or b.keys.items n 0 ≡ key → key ≡ key_of name → key ≢ IN_OVERFLOW → AreBytes name
-    → IsFree slots key at → Holds (slice_set slots at (slot_of key n)) b new
+    → IsFirstFreeSlot slots key at → Holds (slice_set slots at (slot_of key n)) b new
 names-put slots a b names new name n key at is h count few fresh overflow same more last own other bytes free =
     subst (λ xs. Holds (slice_set slots at (slot_of key n)) b xs) (sym is) (
       more-names names name n count few,

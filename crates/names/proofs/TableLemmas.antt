@@ -1,5 +1,6 @@
--- A table of slots by keys: a name that is put there is found, and a name that is not found is not there.
-use Rattle.names.proofs.Words.{◌≡◌, ◌≢◌, ℕ, zero, suc, ◌+◌, ◌<◌, ◌≤◌, ◌^◌, ◌⊎◌, List, [], ◌∷◌, ◌++◌, length, take, slice_get, Option, Some, None, IfSome, refl, sym, ◌∙◌, ap, subst, arith, inl, inr, slice_set, cases_lt, unwrap_or, replicate, length-set, length-replicate, get_or-replicate, slice_get_within, unwrap_or-slice_get, same_Some, Name, name_at, code_of, Slot, NO_NAME, MAX_PROBES, NameKeys, Overflow, code_in_overflow, key_of, half_of, slot_of, slot_index_of, IsProbedSlot, IsTaken, IsReachable, AreReachable, AreFound, AreUnused, IsFree, IsPassed}
+-- A table of slots by keys: a name that is put there is found, and a name that is not found is not
+-- there.
+use Rattle.names.proofs.Words.{◌≡◌, ◌≢◌, ℕ, zero, suc, ◌+◌, ◌<◌, ◌≤◌, ◌^◌, ◌⊎◌, List, [], ◌∷◌, ◌++◌, length, take, slice_get, Option, Some, None, IfSome, refl, sym, ◌∙◌, ap, subst, arith, inl, inr, slice_set, cases_lt, unwrap_or, replicate, length-set, length-replicate, get_or-replicate, slice_get_within, unwrap_or-slice_get, same_Some, Name, name_at, code_of, Slot, NO_NAME, MAX_PROBES, NameKeys, Overflow, code_in_overflow, key_of, half_of, slot_of, slot_index_of, IsProbedSlot, IsTaken, IsReachable, AreReachable, AreFound, AreUnused, IsFirstFreeSlot, IsPassed}
 use Rattle.names.proofs.CodesLemmas.{code-absent}
 
 same-slot : (slots : List Slot) (key step : ℕ) (s t : Slot) → IsProbedSlot slots key step s → IsProbedSlot slots key step t → s ≡ t
@@ -13,7 +14,8 @@ passed-one slots names name key step t at taken other s g =
 no-name : (k n : ℕ) → k < n → n < 2 ^ 32 → k ≡ NO_NAME → ⊥
 no-name k n p q e = omega (arith, p, q, e)
 
--- no name is this one, if it is not in the overflow and the search reached a slot without a code or has tried all its slots
+-- no name is this one, if it is not in the overflow and the search reached a slot without a code or
+-- has tried all its slots
 pub not-found : (slots : List Slot) (a : Overflow) (names : List Name) (name : Name) (key step : ℕ) → key ≡ key_of name → AreFound slots a names → length names < 2 ^ 32
     → ((i : ℕ) → i < step → IsPassed slots names name key i) → ((length slots ≤ step) ⊎ (MAX_PROBES ≤ step)) ⊎ ((s : Slot) × IsProbedSlot slots key step s × (s.code ≡ NO_NAME))
     → ((k : ℕ) → k < length names → name_at names k ≡ name → code_in_overflow a name ≢ Some k) → code_of names name ≡ None
@@ -103,7 +105,7 @@ reachable-set slots at new key k free ne known h =
       before = λ i p. taken-set slots at new key i ne (h.before i p);
     }
 
-put-new : (slots : List Slot) (at : ℕ) (key k : ℕ) → IsFree slots key at → k ≢ NO_NAME → IsReachable (slice_set slots at (slot_of key k)) key k
+put-new : (slots : List Slot) (at : ℕ) (key k : ℕ) → IsFirstFreeSlot slots key at → k ≢ NO_NAME → IsReachable (slice_set slots at (slot_of key k)) key k
 put-new slots at key k f known =
     let new : Slot = slot_of key k in
     let l = length-set slots at new in
@@ -134,7 +136,7 @@ unused slots old m n free nothing e none i s g = alike (sym (ap (λ xs. slice_ge
         ap (λ (u : Slot). u.code) same ∙ none
 
 -- one more name is put into the first free slot that its key leads to
-pub put-reachable : (slots : List Slot) (a : NameKeys) (names : List Name) (key at n : ℕ) → key ≡ key_of (name_at names n) → n < NO_NAME → AreReachable n slots a names → IsFree slots key at
+pub put-reachable : (slots : List Slot) (a : NameKeys) (names : List Name) (key at n : ℕ) → key ≡ key_of (name_at names n) → n < NO_NAME → AreReachable n slots a names → IsFirstFreeSlot slots key at
     → AreReachable (n + 1) (slice_set slots at (slot_of key n)) a names
 put-reachable slots a names key at n own few reachable f k lt ne = by (cases_lt k n)
   where

@@ -4,7 +4,7 @@ pub use Rattle.mm_lex.specs.Alphabet.{Name, has_name, name_eq}
 pub use Rattle.names.specs.Codes.{AreDistinct, HaveCodes, code_of, name_at, code_or_len, codes_or_len, with_name, with_names}
 pub use Rattle.names.specs.Stored.Keys.{AreBytes, digits, eight_bytes_from, first_middle_last, first_four_last_three, key_of, mixed, mixed_front, key_bytes}
 pub use Rattle.names.specs.Stored.Overflow.{code_in_overflow}
-pub use Rattle.names.specs.Stored.Table.{OverflowGrows, AreFound, AreReachable, AreNameKeys, AreUnused, IsFree, IsReachable, IsNameKey, IsPassed, IsTable, IsTaken, half_of, slot_index_of, IsProbedSlot, slot_of}
+pub use Rattle.names.specs.Stored.Table.{OverflowGrows, AreFound, AreReachable, AreNameKeys, AreUnused, IsFirstFreeSlot, IsReachable, IsNameKey, IsPassed, IsTable, IsTaken, half_of, slot_index_of, IsProbedSlot, slot_of}
 pub use Rattle.names.specs.Stored.NameList.{AreAscendingEnds, names_from, start_of}
 pub use Rattle.names.specs.declared.name_keys.NameKeys.{NameKeys}
 pub use Rattle.names.specs.declared.keys.TheConstants.{IN_OVERFLOW, LEAST_HASH, LEAST_HASHED_LEN}

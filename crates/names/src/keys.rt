@@ -53,7 +53,10 @@ fn few_bytes(name: &[u8]) -> u64
     ensures below { result < 2 ^ 56 }
 {
     let len = name.len();
-    digit(name[0], digit(name[len / 2], digit(name[len - 1], 0)))
+    with_byte(
+        name[0],
+        with_byte(name[len / 2], with_byte(name[len - 1], 0)),
+    )
 }
 
 /// Returns the first four bytes and the last three as one number.
@@ -64,9 +67,12 @@ fn more_bytes(name: &[u8]) -> u64
     ensures below { result < 2 ^ 56 }
 {
     let len = name.len();
-    let last = digit(name[len - 3], digit(name[len - 2], digit(name[len - 1], 0)));
-    let first = digit(name[2], digit(name[3], last));
-    digit(name[0], digit(name[1], first))
+    let last = with_byte(
+        name[len - 3],
+        with_byte(name[len - 2], with_byte(name[len - 1], 0)),
+    );
+    let first = with_byte(name[2], with_byte(name[3], last));
+    with_byte(name[0], with_byte(name[1], first))
 }
 
 /// Returns the eight bytes from an index on as one number.
@@ -74,13 +80,19 @@ fn eight_bytes(name: &[u8], at: usize) -> u64
     requires { at + 8 ≤ length name.now }
     ensures { result ≡ digits (eight_bytes_from name.now at) }
 {
-    let last = digit(name[at + 5], digit(name[at + 6], digit(name[at + 7], 0)));
-    let middle = digit(name[at + 3], digit(name[at + 4], last));
-    digit(name[at], digit(name[at + 1], digit(name[at + 2], middle)))
+    let last = with_byte(
+        name[at + 5],
+        with_byte(name[at + 6], with_byte(name[at + 7], 0)),
+    );
+    let middle = with_byte(name[at + 3], with_byte(name[at + 4], last));
+    with_byte(
+        name[at],
+        with_byte(name[at + 1], with_byte(name[at + 2], middle)),
+    )
 }
 
 /// Returns the number with this lowest byte, followed by the bytes of `above`.
-fn digit(byte: u8, above: u64) -> u64
+fn with_byte(byte: u8, above: u64) -> u64
     requires { above < 2 ^ 56 }
     ensures { result ≡ byte + 256 * above }
 {

@@ -4,7 +4,7 @@ ghost use Rattle.mm_lex.specs.Alphabet.{Name};
 ghost use Rattle.names.specs.Codes.{name_at, code_of, AreDistinct};
 ghost use Rattle.names.specs.Stored.Keys.{key_of};
 ghost use Rattle.names.specs.Stored.Overflow.{code_in_overflow};
-ghost use Rattle.names.specs.Stored.Table.{half_of, slot_of, slot_index_of, IsProbedSlot, AreFound, AreNameKeys, OverflowGrows, AreReachable, AreUnused, IsFree};
+ghost use Rattle.names.specs.Stored.Table.{half_of, slot_of, slot_index_of, IsProbedSlot, AreFound, AreNameKeys, OverflowGrows, AreReachable, AreUnused, IsFirstFreeSlot};
 ghost use Rattle.names.specs.declared.keys.TheConstants.{IN_OVERFLOW};
 ghost use Rattle.names.specs.declared.table.TheConstants.{MAX_PROBES};
 
@@ -220,7 +220,7 @@ fn has_name_at(name_list: &NameList, code: u32, name: &[u8]) -> bool
 /// Returns the index of the first free slot that a search for this key probes, or `None` if it
 /// probes none.
 pub(crate) fn free_slot_index(slots: &[Slot], key: u64) -> Option<usize>
-    ensures { IfSome result (IsFree slots.now key) }
+    ensures { IfSome result (IsFirstFreeSlot slots.now key) }
 {
     for step in 0..max_steps(slots.len()) {
         if probe(slots, key, step).code == NO_NAME {

@@ -1,4 +1,5 @@
--- A Prepare and an Accept preserve the invariant: a promise reports the acceptor's votes truthfully, and a vote respects the acceptor's promises.
+-- A Prepare and an Accept preserve the invariant: a promise reports the acceptor's votes
+-- truthfully, and a vote respects the acceptor's promises.
 use Rattle.net.proofs.Words.{◌≡◌, ℕ, suc, ◌+◌, ◌≤◌, Bool, true, false, List, [], ◌∷◌, length, Option, Some, inl, inr, refl, ap, sym, ◌∙◌, subst, arith, if◌then◌else◌, slice_get, AllByRecursion, entry_at, put_at, In, put_either, put_same, Ballot, SlotReport, Accepted, AcceptedEntry, is_below, pages_of, Node, reports_from, promise_posts_from, promises, sends_nack, on_prepare, accepted_entry, accepts_value, on_accept, Under, Upto, upto_self, upto_upto, upto_under, under_is_upto, not_both, under_true, under_false, reports-held, held-reported, Vote, vote}
 use Rattle.net.proofs.Ledger.{begun_as, Promised, proposal, Ledger, HasHigher, IsBacked, OnePromise, IsSound}
 use Rattle.net.proofs.LedgerGrows.{AllPromisedUpto, Grows, with_promise, with_vote, grows-with_promise, grows-with_vote}
@@ -36,7 +37,8 @@ module _ {V : Type 0} {offers : List V} {l : Ledger V} (n : Node V) (sound : IsS
     not_twice : (q : Promised V) → In q l.promises → OnePromise made q → ⊥
     not_twice q i same = not_both b b (subst (λ (c : Ballot). Under c b) (sym same.1) (upto_under q.ballot n.promise b (holds.acceptor.promised q i (sym same.0)) under)) (upto_self b)
 
-    -- for each vote of the node from slot `first` on and below the ballot, the promise reports the slot under the vote's ballot or a higher one
+    -- for each vote of the node from slot `first` on and below the ballot, the promise reports the
+    -- slot under the vote's ballot or a higher one
     reports_all : (x : Vote V) → In x l.votes → x.node ≡ n.me → first ≤ x.slot → Under x.ballot b → HasHigher made.reports x
     reports_all x i mine from low =
         let kept = holds.acceptor.held_from x i mine in
@@ -89,7 +91,8 @@ module _ {V : Type 0} {offers : List V} {l : Ledger V} (n : Node V) (sound : IsS
           cast = refl;
         }
 
-  -- a Prepare is answered by a promise or a refusal, depending on the test, and both preserve the invariant
+  -- a Prepare is answered by a promise or a refusal, depending on the test, and both preserve the
+  -- invariant
   prepare_either : (to : ℕ) (b : Ballot) (first : ℕ) → In (begun_as b first) l.begun → (t : Bool) → is_below n.promise b ≡ t
       → Continues n.weights offers n.me l (if t then promises n to b first else sends_nack n to b)
   prepare_either to b first begun true test = promises_continue b first (under_true _ _ test) to begun
@@ -107,7 +110,8 @@ module _ {V : Type 0} {offers : List V} {l : Ledger V} (n : Node V) (sound : IsS
     voted_upto x (inl e) mine = subst (λ (x : Vote V). Upto x.ballot b) e (upto_self b)
     voted_upto x (inr i) mine = upto_upto x.ballot n.promise b (holds.acceptor.voted x i mine) upto
 
-    -- once the new entry is put, each vote of the node has an entry at its slot with the vote's ballot or a higher one
+    -- once the new entry is put, each vote of the node has an entry at its slot with the vote's
+    -- ballot or a higher one
     held_from_put : (x : Vote V) → In x (vote n.me b s v ∷ l.votes) → x.node ≡ n.me → IsHeldFrom (put_at n.accepted s (accepted_entry b v)) x
     held_from_put x (inl e) mine = subst (λ (x : Vote V). IsHeldFrom (put_at n.accepted s (accepted_entry b v)) x) e record { entry = accepted_entry b v; is_held = put_same n.accepted s (accepted_entry b v); upto = upto_self b }
     held_from_put x (inr i) mine = let old = holds.acceptor.held_from x i mine in elim (put_either n.accepted s x.slot (accepted_entry b v)) [

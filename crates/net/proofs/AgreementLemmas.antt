@@ -73,7 +73,8 @@ answered_met : {V : Type 0} (r : Result (World V) StepFault) (fault : StepFault)
 answered_met (Ok w) fault h = tt
 answered_met (Err met) fault h = cc
 
--- the items that the iterator of a vector has yielded, followed by the remaining ones, are its items
+-- the items that the iterator of a vector has yielded, followed by the remaining ones, are its
+-- items
 pub taken_front : {X A : Type 0} (s : IntoIter X A) (xs : List X) (t : IntoIter X A) → Yields into_iter_steps s xs t → into_iter_items s ≡ xs ++ into_iter_items t
 taken_front s [] t y = ap into_iter_items y
 taken_front s (x ∷ xs) t y = y.1.0 ∙ ap (λ ys. x ∷ ys) (taken_front y.0 xs t y.2)

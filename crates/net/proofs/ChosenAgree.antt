@@ -1,5 +1,5 @@
--- Two values chosen at one slot are equal. Under one ballot only one value is proposed there; under two, the later one proposes
--- the value chosen under the earlier.
+-- Two values chosen at one slot are equal. Under one ballot only one value is proposed there; under
+-- two, the later one proposes the value chosen under the earlier.
 use Rattle.net.proofs.Words.{◌≡◌, ℕ, List, Option, inl, inr, refl, sym, subst, ◌++◌, Contains-in, Ballot, Upto, upto_splits, total, under_is_upto, quorums_meet, Vote, IsChosenAt, IsChosen, ChosenValuesAgree}
 use Rattle.net.proofs.Ledger.{proposal, Ledger, IsSound}
 use Rattle.net.proofs.LaterBallots.{later_value}
@@ -7,7 +7,8 @@ use Rattle.net.proofs.EveryEvent.{holds_after}
 use Rattle.net.proofs.TwoMoments.{stays_chosen}
 
 module _ {V : Type 0} (ws : List ℕ) (offers : List V) (l : Ledger V) (sound : IsSound ws offers l) where
-  -- two values chosen at one slot are equal, if the ballot of the first is at most that of the second
+  -- two values chosen at one slot are equal, if the ballot of the first is at most that of the
+  -- second
   agree_upto : (b c : Ballot) (s : ℕ) (u v : Option V) → IsChosenAt ws l.votes b s u → IsChosenAt ws l.votes c s v → Upto b c → u ≡ v
   agree_upto b c s u v early late upto =
       let shared = quorums_meet ws early.voters late.voters early.majority late.majority in

@@ -1,4 +1,5 @@
--- The invariant holds at the start, and each event that is taken preserves it, so it holds of the world after any events.
+-- The invariant holds at the start, and each event that is taken preserves it, so it holds of the
+-- world after any events.
 use Rattle.net.proofs.Words.{◌≡◌, ℕ, zero, suc, ◌+◌, ◌<◌, Bool, true, false, ◌==◌, List, [], ◌∷◌, Option, Some, None, Result, Ok, Err, inl, inr, refl, ap, sym, ◌∙◌, subst, arith, if◌then◌else◌, slice_get, set, AllByRecursion, In, Packet, Body, Prepare, Promise, Accept, Accepted, Nack, Ask, Told, Refusal, Node, StepResult, offer_result, begin_result, on_body, on_packet, restarted, MAX_EVENTS, Event, Offer, Begin, Deliver, Restart, StepFault, EventsSpent, Vote, World, start, nodes_from, after_step, after_step_or_fault, votes_after, at_node, delivered, event_result_without_limit, event_result, events_result, after, offers_of, IsAfter, all_append}
 use Rattle.net.proofs.GrowingLists.{all_more, all_in, in_slice_get}
 use Rattle.net.proofs.Ledger.{Ledger, IsSound}
@@ -21,7 +22,8 @@ module _ {V : Type 0} {offers : List V} {l : Ledger V} (n : Node V) (sound : IsS
   body_continues p (Ask s) said = ask_continues n sound holds p s
   body_continues p (Told s v) said = told_continues n sound holds p s v said
 
-  -- a restart preserves the invariant: the acceptor keeps its state, and the rest is as in a new node
+  -- a restart preserves the invariant: the acceptor keeps its state, and the rest is as in a new
+  -- node
   restart_continues : Continues n.weights offers n.me l (restarted n)
   restart_continues = same_ledger sound record {
     me = holds.me;
@@ -33,7 +35,8 @@ module _ {V : Type 0} {offers : List V} {l : Ledger V} (n : Node V) (sound : IsS
 
 -- One node of many.
 
--- if the invariant holds of nodes numbered from k on, it holds of the node at index i, which has the number k + i
+-- if the invariant holds of nodes numbered from k on, it holds of the node at index i, which has
+-- the number k + i
 pub node_at : {V : Type 0} (ws : List ℕ) (offers : List V) (l : Ledger V) (ns : List (Node V)) (k i : ℕ) (n : Node V) → slice_get ns i ≡ Some n → NodesHold ws offers l k ns → NodeHolds ws offers l (k + i) n
 node_at ws offers l [] k i n e h = cc
 node_at {V} ws offers l (m ∷ ns) k zero n e h =
@@ -96,7 +99,8 @@ module _ {V : Type 0} (offers : List V) (w : World V) (h : WorldHolds offers w) 
     answered_holds (Ok step) next = world_after k step (subst (λ (j : ℕ). Continues w.weights offers j h.ledger step) there.me (subst (λ (ws : List ℕ). Continues ws offers n.me h.ledger step) there.weights next))
     answered_holds (Err refusal) next = tt
 
-  -- if the answer of every node with its number and weights preserves the invariant, the invariant holds after it
+  -- if the answer of every node with its number and weights preserves the invariant, the invariant
+  -- holds after it
   at_node_holds : (k : ℕ) (make : Node V → Result (StepResult V) Refusal)
       → ((n : Node V) → NodeHolds w.weights offers h.ledger k n → IsSound n.weights offers h.ledger → NodeHolds n.weights offers h.ledger n.me n → IfStep (make n) (λ step. Continues n.weights offers n.me h.ledger step))
       → (o : Option (Node V)) → slice_get w.nodes k ≡ o → IfTaken (at_node w k make o) (WorldHolds offers)
@@ -112,14 +116,16 @@ module _ {V : Type 0} (offers : List V) (w : World V) (h : WorldHolds offers w) 
       (λ n at sound holds. body_continues n sound holds p.from p.body (subst (λ (ws : List ℕ). SaysTrue ws h.ledger p.from p.body) (sym at.weights) said))
       (slice_get w.nodes p.to) refl
 
-  -- the invariant holds after an event that is taken, if the value that it offers is among the offers
+  -- the invariant holds after an event that is taken, if the value that it offers is among the
+  -- offers
   happens_at_holds : (size : V → ℕ) (e : Event V) → ((v : V) → In v (offers_of (e ∷ [])) → In v offers) → IfTaken (event_result_without_limit size w e) (WorldHolds offers)
   happens_at_holds size (Offer k v) brought = at_node_holds k (λ n. offer_result size n v) (λ n at sound holds. offer_continues n sound holds size v (brought v (inl refl))) (slice_get w.nodes k) refl
   happens_at_holds size (Begin k) brought = at_node_holds k begin_result (λ n at sound holds. begin_continues n sound holds) (slice_get w.nodes k) refl
   happens_at_holds size (Deliver number) brought = delivered_holds number (slice_get w.packets number) refl
   happens_at_holds size (Restart k) brought = at_node_holds k (λ n. Ok (restarted n)) (λ n at sound holds. restart_continues n sound holds) (slice_get w.nodes k) refl
 
--- if P holds of the world after an event that is taken, it holds also if the limit of events is tested first
+-- if P holds of the world after an event that is taken, it holds also if the limit of events is
+-- tested first
 pub spent_or : {V : Type 0} (P : World V → Type 0) (r : Result (World V) StepFault) (t : Bool) → IfTaken r P → IfTaken (if t then Err EventsSpent else r) P
 spent_or P r true h = tt
 spent_or P r false h = h

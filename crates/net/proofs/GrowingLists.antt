@@ -59,7 +59,8 @@ first_new : {A B P Q : Type 0} → A ⊎ P → (A → B ⊎ Q) → (P → Q) →
 first_new (inl a) f g = f a
 first_new (inr p) f g = inr (g p)
 
--- if ys adds to xs and zs adds to ys, zs adds to xs elements that satisfy what follows from either fact
+-- if ys adds to xs and zs adds to ys, zs adds to xs elements that satisfy what follows from either
+-- fact
 pub adds_both : {A : Type 0} {P Q R : A → Type 0} {xs ys zs : List A} → ((x : A) → P x → R x) → ((x : A) → Q x → R x) → Adds P xs ys → Adds Q ys zs → Adds R xs zs
 adds_both f g a b = record {
   old = λ x i. b.old x (a.old x i);

@@ -151,11 +151,13 @@ module _ {V : Type 0} (size : V → ℕ) (old : History V) (cores : List (Core V
   no_node_shown k past = ap (λ (ns : List (Node V)). slice_get ns k) h.nodes ∙ nodes_past cores k past
 
   module _ (low : length old.events < MAX_EVENTS) where
-    -- below the limit of events, the history with one more event leads to the result of the event in the world
+    -- below the limit of events, the history with one more event leads to the result of the event
+    -- in the world
     pub next_is : (e : Event V) → world_of size (with_event old e) ≡ event_result_without_limit size h.world e
     next_is e = after-push size old.weights old.events h.world e h.is_after ∙ event_result-not_spent size h.world e (let count = taken_count size old.weights old.events h.world h.is_after in omega (arith, count, low))
 
-    -- if an event makes the step, the cores and packets with the step made are of the world after the event
+    -- if an event makes the step, the cores and packets with the step made are of the world after
+    -- the event
     pub makes : (e : Event V) (k : ℕ) (new : Core V) (step : StepResult V) → event_result_without_limit size h.world e ≡ Ok (after_step h.world k step) → (more : List (Packet V)) → new.node ≡ step.node → more ≡ packets ++ step.posts
         → AllByRecursion (IsPost (length old.weights)) more → AreOfWorld size (with_event old e) (set cores k new) more
     makes e k new step at more node added posts = record {

@@ -1,12 +1,13 @@
--- The invariant of a world: there is a sound ledger for it. The votes of the ledger are those ever cast; the state of each node and
--- each packet agree with the ledger.
+-- The invariant of a world: there is a sound ledger for it. The votes of the ledger are those ever
+-- cast; the state of each node and each packet agree with the ledger.
 use Rattle.net.proofs.Words.{◌≡◌, ◌≢◌, ℕ, suc, ◌≤◌, true, List, [], ◌∷◌, length, Option, Some, ◌⊎◌, inl, inr, ap, sym, ◌∙◌, slice_get, AllByRecursion, entry_at, In, Ballot, SlotReport, Packet, Body, Prepare, Promise, Accept, Accepted, Nack, Ask, Told, AcceptedEntry, Heard, Role, Idle, Preparing, Leading, Tally, pages_of, joined_pages, Node, pages_from, page_of, has_voter, Upto, Vote, vote, IsChosen, World}
 use Rattle.net.proofs.GrowingLists.{all_more}
 use Rattle.net.proofs.Ledger.{Begun, begun_as, Promised, Proposal, proposal, Ledger, IsFree, IsBegun, IsSound}
 use Rattle.net.proofs.LedgerGrows.{Grows, begun_lasts, chosen_lasts, free_lasts}
 use Rattle.net.proofs.LedgerSteps.{AllProposedBelow}
 
--- The acceptor: its promise is at least each ballot that it promised or voted under, and it holds its highest vote of each slot.
+-- The acceptor: its promise is at least each ballot that it promised or voted under, and it holds
+-- its highest vote of each slot.
 
 pub record IsHeldFrom {V : Type 0} (accepted : List (Option (AcceptedEntry V))) (x : Vote V) : Type 0 where
   pub entry : AcceptedEntry V
@@ -19,7 +20,8 @@ pub record AcceptorHolds {V : Type 0} (promises : List (Promised V)) (votes : Li
   pub held_from : (x : Vote V) → In x votes → x.node ≡ k → IsHeldFrom accepted x
   pub held : (s : ℕ) (h : AcceptedEntry V) → entry_at accepted s ≡ Some h → In (vote k h.ballot s h.value) votes
 
--- The proposer: while it prepares, its pages are true and it has proposed nothing; as a leader, it may propose any value from its next slot on.
+-- The proposer: while it prepares, its pages are true and it has proposed nothing; as a leader, it
+-- may propose any value from its next slot on.
 
 -- the page is the one at this index, from 0, of node k's promise of b
 pub record IsPage {V : Type 0} (l : Ledger V) (k : ℕ) (b : Ballot) (index : ℕ) (page : List (SlotReport V)) : Type 0 where
@@ -90,7 +92,8 @@ pub record IsPagePacket {V : Type 0} (l : Ledger V) (k : ℕ) (b : Ballot) (numb
   pub is_number : number ≡ suc index
   pub place : slice_get (pages_of promise.reports) index ≡ Some page
 
--- the ledger confirms the body of a packet from node k: a ballot begun, a page of a promise, a proposal, a vote or a chosen value
+-- the ledger confirms the body of a packet from node k: a ballot begun, a page of a promise, a
+-- proposal, a vote or a chosen value
 abbrev pub SaysTrue : {V : Type 0} → List ℕ → Ledger V → ℕ → Body V → Type 0
 SaysTrue ws l k (Prepare b first) = In (begun_as b first) l.begun
 SaysTrue ws l k (Promise b number count page) = IsPagePacket l k b number count page

@@ -1,4 +1,5 @@
--- The law of the kept part: each step makes its one change to the kept part of its own node only, and a restart makes none.
+-- The law of the kept part: each step makes its one change to the kept part of its own node only,
+-- and a restart makes none.
 use Rattle.net.proofs.Words.{◌≡◌, ◌≢◌, ℕ, ◌==◌, List, [], ◌∷◌, ◌++◌, Option, Some, None, Result, Ok, Err, refl, ap, sym, ◌∙◌, subst, slice_get, option_map, Packet, Change, Refusal, KeptPart, changed_by, Node, StepResult, kept_of, offer_result, begin_result, on_packet, restarted, ChangesKeptOnOk, offered_kept, begun_kept, body_kept, restarted_kept, MAX_EVENTS, Event, Offer, Begin, Deliver, Restart, StepFault, World, after_step, after_step_or_fault, at_node, delivered, event_result_without_limit, event_result, events_result, kept_part, node_of, change_of_result, change_at, change_delivered, change_of, AreOfOthers, KeptPartSurvives}
 use Rattle.net.proofs.EveryEvent.{IfTaken, if_taken, spent_or}
 use Rattle.net.proofs.TwoMoments.{events_result-append, later_events}
@@ -33,13 +34,15 @@ module _ {V : Type 0} (w : World V) (j k : ℕ) where
   moves_at make changes None e = tt
   moves_at make changes (Some n) e = moves_answered n e (make n) (changes n)
 
--- from w to x the kept part of node k gets the change of the event if it is an event of k, else it stays
+-- from w to x the kept part of node k gets the change of the event if it is an event of k, else it
+-- stays
 pub record Happens {V : Type 0} (size : V → ℕ) (w : World V) (k : ℕ) (e : Event V) (x : World V) : Type 0 where
   pub own : node_of w e ≡ Some k → kept_part x k ≡ changed_part (change_of size w e) (kept_part w k)
   pub other : node_of w e ≢ Some k → kept_part x k ≡ kept_part w k
 
 module _ {V : Type 0} (size : V → ℕ) (w : World V) (k : ℕ) where
-  -- if the step is one of node j, and j is the node of the event, the kept part of node k changes by the event
+  -- if the step is one of node j, and j is the node of the event, the kept part of node k changes
+  -- by the event
   as_happens : (e : Event V) (j : ℕ) → node_of w e ≡ Some j → (r : Result (World V) StepFault) → IfTaken r (Moves w j k (change_of size w e)) → IfTaken r (Happens size w k e)
   as_happens e j is_of (Ok x) h = record {
     own = λ d. h.own (let same : j ≡ k = cc in same);
@@ -47,7 +50,8 @@ module _ {V : Type 0} (size : V → ℕ) (w : World V) (k : ℕ) where
   }
   as_happens e j is_of (Err fault) h = tt
 
-  -- a delivery makes its change to the kept part of the node to which the packet is addressed, and of no other
+  -- a delivery makes its change to the kept part of the node to which the packet is addressed, and
+  -- of no other
   happens_delivered : (number : ℕ) (o : Option (Packet V)) → slice_get w.packets number ≡ o → IfTaken (delivered w o) (Happens size w k (Deliver number))
   happens_delivered number None e = tt
   happens_delivered number (Some p) e =
@@ -62,7 +66,8 @@ module _ {V : Type 0} (size : V → ℕ) (w : World V) (k : ℕ) where
   happens_moves (Deliver number) = happens_delivered number (slice_get w.packets number) refl
   happens_moves (Restart j) = as_happens (Restart j) j refl (event_result_without_limit size w (Restart j)) (moves_at w j k (λ n. Ok (restarted n)) (λ n. restarted_kept n) (slice_get w.nodes j) refl)
 
-  -- each event makes its change to the kept part of its node and of no other, with the limit of events tested first
+  -- each event makes its change to the kept part of its node and of no other, with the limit of
+  -- events tested first
   pub event_moves : (e : Event V) → IfTaken (event_result size w e) (Happens size w k e)
   event_moves e = spent_or (Happens size w k e) (event_result_without_limit size w e) (w.event_count == MAX_EVENTS) (happens_moves e)
 
@@ -98,7 +103,8 @@ module _ {V : Type 0} (size : V → ℕ) (k : ℕ) (kept : Option (KeptPart V)) 
   then_restart (Err fault) h = tt
   then_restart (Ok w) h = restart_keeps w h (event_result size w (Restart k)) (event_moves size w k (Restart k))
 
--- after an event of a node, events of others and its restart, its kept part is the one before with the event's change
+-- after an event of a node, events of others and its restart, its kept part is the one before with
+-- the event's change
 pub kept_part_survives : {V : Type 0} → KeptPartSurvives V
 kept_part_survives {V} size ws events others e k w x y before made is_of of_others after_all =
     let kept : Option (KeptPart V) = changed_part (change_of size w e) (kept_part w k) in

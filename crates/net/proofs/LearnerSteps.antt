@@ -1,4 +1,5 @@
--- An Accepted, an Ask and a Told preserve the invariant: a learner counts true votes, learns chosen values and tells nothing else.
+-- An Accepted, an Ask and a Told preserve the invariant: a learner counts true votes, learns chosen
+-- values and tells nothing else.
 use Rattle.net.proofs.Words.{◌≡◌, ℕ, Bool, true, false, nat_lt, List, [], ◌∷◌, Option, Some, None, inl, inr, refl, sym, ◌∙◌, subst, if◌then◌else◌, AllByRecursion, SLOTS, entry_at, put_at, In, In-contains, put_either, Ballot, Ask, is_quorum, packet, to_others, Node, unchanged, log_length, has_voter, counted, learns, learns_chosen, on_accepted, on_accepted_at, on_ask, on_ask_at, on_told, on_told_at, counted_either, vote, IsChosen}
 use Rattle.net.proofs.Ledger.{proposal, Ledger, IsSound}
 use Rattle.net.proofs.Invariant.{HasVoted, NodeHolds, IsTrue}
@@ -41,7 +42,8 @@ module _ {V : Type 0} {offers : List V} {l : Ledger V} (n : Node V) (sound : IsS
   chooses_continues : (s : ℕ) (v : Option V) → IsChosen n.weights l.votes s v → Continues n.weights offers n.me l (learns_chosen n s v)
   chooses_continues s v chosen = same_ledger sound (learns_holds s v chosen) (true_ask_below (learns n s v) (log_length (learns n s v)) (nat_lt (log_length (learns n s v)) s)) refl
 
-  -- with a quorum of true votes counted the node learns the value, else nothing happens; both preserve the invariant
+  -- with a quorum of true votes counted the node learns the value, else nothing happens; both
+  -- preserve the invariant
   counts_either : (b : Ballot) (s : ℕ) (v : Option V) → ((k : ℕ) → has_voter n.tallies s b k ≡ true → In (vote k b s v) l.votes) → (t : Bool) → is_quorum n.weights (has_voter n.tallies s b) ≡ t
       → Continues n.weights offers n.me l (if t then learns_chosen n s v else unchanged n)
   counts_either b s v voted true quorum = chooses_continues s v record {
@@ -92,7 +94,8 @@ module _ {V : Type 0} {offers : List V} {l : Ledger V} (n : Node V) (sound : IsS
 
   -- An Ask is answered with a learned value.
 
-  -- an Ask is answered with the value learned at the slot, which is chosen, or not at all; both preserve the invariant
+  -- an Ask is answered with the value learned at the slot, which is chosen, or not at all; both
+  -- preserve the invariant
   ask_at : (p s : ℕ) (o : Option (Option V)) → entry_at n.learned s ≡ o → Continues n.weights offers n.me l (on_ask_at o n p s)
   ask_at p s None e = same_ledger sound holds tt refl
   ask_at p s (Some v) e = same_ledger sound holds (holds.learner.chosen s v e, tt) refl

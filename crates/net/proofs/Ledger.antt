@@ -1,5 +1,7 @@
--- The ledger of a run: ballots begun, promises, proposals and votes, in four lists that only grow, the newest first.
--- It exists only in the proof, beside the world; the argument about it needs no nodes and no packets.
+-- The ledger of a run: ballots begun, promises, proposals and votes, in four lists that only grow,
+-- the newest first.
+-- It exists only in the proof, beside the world; the argument about it needs no nodes and no
+-- packets.
 use Rattle.net.proofs.Words.{◌≡◌, ℕ, Bool, true, List, [], ◌∷◌, Option, Some, None, ◌⊎◌, inl, ◌≤◌, In, Ballot, SlotReport, is_quorum, Under, Upto, Vote, vote}
 use Rattle.net.proofs.GrowingLists.{Settles}
 
@@ -44,7 +46,8 @@ pub record HasPromised {V : Type 0} (l : Ledger V) (k : ℕ) (b : Ballot) : Type
 abbrev pub NoneVoted : {V : Type 0} → Ledger V → (ℕ → Bool) → Ballot → ℕ → Type 0
 NoneVoted {V} l quorum b s = (x : Vote V) → In x l.votes → quorum x.node ≡ true → x.slot ≡ s → Under x.ballot b → ⊥
 
--- an older proposal, under a ballot below b, is for v at slot s, and no node of the quorum voted there under a ballot in between
+-- an older proposal, under a ballot below b, is for v at slot s, and no node of the quorum voted
+-- there under a ballot in between
 pub record HighestVoted {V : Type 0} (l : Ledger V) (older : List (Proposal V)) (quorum : ℕ → Bool) (b : Ballot) (s : ℕ) (v : Option V) : Type 0 where
   pub ballot : Ballot
   pub under : Under ballot b
@@ -83,13 +86,15 @@ pub record HasHigher {V : Type 0} (reports : List (SlotReport V)) (x : Vote V) :
   pub slot : report.slot ≡ x.slot
   pub upto : Upto x.ballot report.ballot
 
--- the report is of a vote of the promising node, below the promised ballot and at a slot not below `first`
+-- the report is of a vote of the promising node, below the promised ballot and at a slot not below
+-- `first`
 pub record IsBacked {V : Type 0} (l : Ledger V) (p : Promised V) (r : SlotReport V) : Type 0 where
   pub first : p.first ≤ r.slot
   pub under : Under r.ballot p.ballot
   pub voted : In (vote p.node r.ballot r.slot r.value) l.votes
 
--- at each slot from `first` on the promise reports the highest vote of its node below its ballot, and it reports votes only
+-- at each slot from `first` on the promise reports the highest vote of its node below its ballot,
+-- and it reports votes only
 pub record IsTruthful {V : Type 0} (l : Ledger V) (p : Promised V) : Type 0 where
   pub begun : In (begun_as p.ballot p.first) l.begun
   pub reported : (x : Vote V) → In x l.votes → x.node ≡ p.node → p.first ≤ x.slot → Under x.ballot p.ballot → HasHigher p.reports x

@@ -1,5 +1,6 @@
 -- The ledger grows by what one node does, and the facts about it still hold.
--- A node that promised a ballot casts no new vote below it, so after the promises of a quorum its votes below are final.
+-- A node that promised a ballot casts no new vote below it, so after the promises of a quorum its
+-- votes below are final.
 use Rattle.net.proofs.Words.{◌≡◌, ℕ, Bool, true, List, [], ◌∷◌, Option, inl, inr, refl, sym, ◌∙◌, subst, In, Contains-in, In-contains, Ballot, Under, Upto, not_both, Vote, IsChosen}
 use Rattle.net.proofs.GrowingLists.{Adds, adds_none, adds_one, adds_both}
 use Rattle.net.proofs.Ledger.{Begun, Promised, Proposal, Ledger, HasPromised, NoneVoted, IsGrounded, IsFree, AllGrounded, IsTruthful, IsBegun}
@@ -79,7 +80,8 @@ module _ {V : Type 0} {k : ℕ} {l m : Ledger V} (g : Grows k l m) where
     | inr new ↦ absurd (not_both x.ballot b under (subst (λ (c : Ballot). Upto c x.ballot) h.ballot (new.1 h.promise h.is_in (h.node ∙ new.0))))
   ]
 
-  -- if the nodes of a quorum promised a ballot and cast no vote below it at a slot, they cast none there later
+  -- if the nodes of a quorum promised a ballot and cast no vote below it at a slot, they cast none
+  -- there later
   pub none_lasts : {b : Ballot} {s : ℕ} (quorum : ℕ → Bool) → ((j : ℕ) → quorum j ≡ true → HasPromised l j b) → NoneVoted l quorum b s → NoneVoted m quorum b s
   none_lasts {b} quorum promised none x i q e under = none x (vote_is_old x b (promised x.node q) i under) q e under
 

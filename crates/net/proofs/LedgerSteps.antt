@@ -1,4 +1,5 @@
--- The ledger remains sound with each addition that a node may make: a ballot begun, a promise, a vote, proposals for consecutive slots.
+-- The ledger remains sound with each addition that a node may make: a ballot begun, a promise, a
+-- vote, proposals for consecutive slots.
 use Rattle.net.proofs.Words.{◌≡◌, ℕ, suc, ◌+◌, ◌<◌, ◌≤◌, List, [], ◌∷◌, length, Option, inl, inr, refl, sym, subst, arith, AllByRecursion, In, Ballot, Vote}
 use Rattle.net.proofs.GrowingLists.{settles_more}
 use Rattle.net.proofs.Ledger.{Begun, Promised, Proposal, proposal, Ledger, IsGrounded, IsFree, free_grounded, IsTruthful, IsBegun, IsBrought, OneBallot, OnePromise, OnePlace, IsSound}
@@ -26,7 +27,8 @@ module _ {V : Type 0} {ws : List ℕ} {offers : List V} {l : Ledger V} (sound : 
     truthful = old_truthful g;
   }
 
-  -- the ledger remains sound with a truthful promise of a ballot that the node did not promise before
+  -- the ledger remains sound with a truthful promise of a ballot that the node did not promise
+  -- before
   pub promised_sound : (p : Promised V) → ((q : Promised V) → In q l.promises → OnePromise p q → ⊥) → IsTruthful l p → IsSound ws offers (with_promise p l)
   promised_sound p fresh truth = let g = grows-with_promise p l p.node refl in record {
     one_value = sound.one_value;
@@ -48,7 +50,8 @@ module _ {V : Type 0} {ws : List ℕ} {offers : List V} {l : Ledger V} (sound : 
       backed = λ r i. let b = h.backed r i in record { first = b.first; under = b.under; voted = b.voted };
     }
 
-  -- the ledger remains sound with a vote for a proposal under a ballot that is at least each that the node promised
+  -- the ledger remains sound with a vote for a proposal under a ballot that is at least each that
+  -- the node promised
   pub voted_sound : (x : Vote V) → AllPromisedUpto l.promises x.node x.ballot → In (proposal x.ballot x.slot x.value) l.proposals → IsSound ws offers (with_vote x l)
   voted_sound x upto proposed = let g = grows-with_vote x l upto in record {
     one_value = sound.one_value;

@@ -1,5 +1,5 @@
--- Each entry of a log is chosen, since a node learns nothing else. So two logs have the same entry at each slot that both have,
--- and one of them is a prefix of the other.
+-- Each entry of a log is chosen, since a node learns nothing else. So two logs have the same entry
+-- at each slot that both have, and one of them is a prefix of the other.
 use Rattle.net.proofs.Words.{◌≡◌, ℕ, ◌+◌, List, ◌++◌, Option, Some, None, refl, subst, slice_get, before_gap, Node, Vote, IsChosen, World, log_at, log, LogEntriesAreChosen, LogsOfNodesAgree}
 use Rattle.net.proofs.Beginnings.{agree_lists}
 use Rattle.net.proofs.Ledger.{Ledger}

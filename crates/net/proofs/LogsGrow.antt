@@ -1,4 +1,5 @@
--- A log only grows: a step of a node learns only at an empty slot, and nothing is forgotten except at a restart.
+-- A log only grows: a step of a node learns only at an empty slot, and nothing is forgotten except
+-- at a restart.
 use Rattle.net.proofs.Words.{◌≡◌, ◌≢◌, ℕ, zero, suc, ◌-◌, ◌^◌, ◌==◌, ◌&&◌, not, nat_lt, Bool, true, false, List, [], ◌∷◌, ◌++◌, length, Option, Some, None, Result, Ok, Err, refl, ap, sym, ◌∙◌, subst, slice_get, if◌then◌else◌, append-nil, arith, nat_tests, SLOTS, entry_at, put_at, entries_to_gap, Ballot, Packet, SlotReport, Body, Prepare, Promise, Accept, Accepted, Nack, Ask, Told, MAX_WAITING, Heard, Role, Idle, Preparing, Leading, Refusal, Busy, LogFull, RoundsSpent, TooLong, MAX_VALUE_BYTES, is_below, is_same, is_quorum, are_received, Node, StepResult, unchanged, pages_from, with_page, is_heard, log_of, log_length, promises, sends_nack, accepts_value, waits, proposes_value, offer_waits, offer_as, offer_result, next_round, begins, begin_result, top_or_first, all_reports, leads, adds_page, completes_promise, on_complete_promise, on_promise_page, on_promise_as, is_at, idles, has_voter, counted, learns_chosen, on_accepted_at, on_ask_at, on_told_at, on_body, on_packet, restarted, MAX_EVENTS, Event, Offer, Begin, Deliver, Restart, World, after_step, after_step_or_fault, at_node, delivered, event_result_without_limit, event_result, log_at, log, IsPrefixOf, LogsOnlyGrow, RestartEmptiesLog}
 use Rattle.net.proofs.EveryEvent.{IfTaken, if_taken, spent_or}
 use Rattle.net.proofs.GrowingLists.{at_set, at_set_other}
@@ -24,7 +25,8 @@ either : {V : Type 0} (n : Node V) (one other : StepResult V) (t : Bool) → Log
 either n one other true h k = h
 either n one other false h k = k
 
--- if each of two answers extends the log or leaves it, unless it is a refusal, so does the one that a test picks
+-- if each of two answers extends the log or leaves it, unless it is a refusal, so does the one that
+-- a test picks
 either_ok : {V : Type 0} (n : Node V) (one other : Result (StepResult V) Refusal) (t : Bool) → LogGrowsOnOk n one → LogGrowsOnOk n other → LogGrowsOnOk n (if t then one else other)
 either_ok n one other true h k = h
 either_ok n one other false h k = k
@@ -140,7 +142,8 @@ module _ {V : Type 0} (size : V → ℕ) (w : World V) (k : ℕ) where
   others_restart j other None = tt
   others_restart j other (Some n) = same_log _ _ (other_log w j k (restarted n) other)
 
-  -- an event other than a restart of node k extends its log or leaves it, if the limit of events is not tested
+  -- an event other than a restart of node k extends its log or leaves it, if the limit of events is
+  -- not tested
   grows_happens_at : (e : Event V) → e ≢ Restart k → IfTaken (event_result_without_limit size w e) (λ x. IsPrefixOf (log w k) (log x k))
   grows_happens_at (Offer j v) other = grows_at w j k (λ n. offer_result size n v) (λ n. offered_grows n size v) (slice_get w.nodes j) refl
   grows_happens_at (Begin j) other = grows_at w j k begin_result (λ n. begun_grows n) (slice_get w.nodes j) refl

@@ -1,5 +1,5 @@
 -- The state that a core reports is that of its node in the world after the events.
-use Rattle.net.proofs.Words.{◌≡◌, ℕ, ◌<◌, List, length, get_or, slice_get, Option, Some, Result, ap, sym, ◌∙◌, Packet, Node, Core, StepFault, World, option_map, History, AreOfWorld, world_of}
+use Rattle.net.proofs.Words.{◌≡◌, ℕ, ◌<◌, List, length, get_or, Option, Some, Result, ap, sym, ◌∙◌, Packet, Node, Core, StepFault, World, option_map, History, AreOfWorld, world_of}
 use Rattle.synod.specs.State.{state_of}
 use Rattle.net.specs.NodeStates.{state_after}
 use Rattle.net.proofs.HistoryLemmas.{node_shown}

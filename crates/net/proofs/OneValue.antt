@@ -1,4 +1,5 @@
--- Under one ballot at most one value is proposed for a slot: a ballot is begun once, and its proposer goes from slot to slot.
+-- Under one ballot at most one value is proposed for a slot: a ballot is begun once, and its
+-- proposer goes from slot to slot.
 -- The ledger is sound and has the proposal of each Accept.
 use Rattle.net.proofs.Words.{ℕ, List, Option, refl, subst, In, Contains-in, Ballot, World, IsProposed, BallotsHaveOneValue}
 use Rattle.net.proofs.GrowingLists.{all_in}

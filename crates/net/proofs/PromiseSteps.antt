@@ -1,5 +1,6 @@
--- A page of a Promise preserves the invariant: it is a true page and is kept as such, its sender is heard once all its pages are there,
--- and with a quorum heard the proposer leads, with proposals each of which is grounded.
+-- A page of a Promise preserves the invariant: it is a true page and is kept as such, its sender is
+-- heard once all its pages are there, and with a quorum heard the proposer leads, with proposals
+-- each of which is grounded.
 use Rattle.net.proofs.Words.{◌≡◌, ◌≢◌, ℕ, zero, suc, ◌+◌, ◌-◌, ◌≤◌, Bool, true, false, not, ◌&&◌, List, [], ◌∷◌, ◌++◌, map, take, drop, length, Option, Some, inl, inr, refl, ap, sym, ◌∙◌, subst, arith, if◌then◌else◌, slice_get, length-map, nat_tests, AllByRecursion, and_parts, not-true, SLOTS, entry_at, front_of, In, Ballot, SlotReport, Heard, Role, Idle, Preparing, Leading, is_same, is_quorum, pages_of, joined_pages, are_received, accept_posts, Node, StepResult, unchanged, pages_from, page_of, with_page, is_heard, top_or_first, proposed_values, all_reports, leads, adds_page, completes_promise, on_complete_promise, on_promise_page, on_promise_as, on_promise, same_true, page_either, other_pages, pages-all, joined-all, are_received-front, first_to_top, length-proposed_values, all_append}
 use Rattle.net.proofs.Ledger.{Promised, Ledger, IsFree, IsBegun, IsBrought, IsSound}
 use Rattle.net.proofs.LedgerGrows.{Grows, grows_both, begun_lasts, free_lasts}
@@ -90,7 +91,8 @@ module _ {V : Type 0} {offers : List V} {l : Ledger V} (n : Node V) (sound : IsS
     };
   }
 
-  -- with these nodes heard the node leads or continues to prepare, depending on the test of a quorum; both preserve the invariant
+  -- with these nodes heard the node leads or continues to prepare, depending on the test of a
+  -- quorum; both preserve the invariant
   hears_either : (b : Ballot) (first : ℕ) (pages : List (List (Option (List (SlotReport V))))) (heard : List Heard) → n.role ≡ Preparing b first → IsPreparing l n.me b first pages heard
       → (t : Bool) → is_quorum n.weights (is_heard heard) ≡ t
       → Goes (if t then leads n b first (all_reports pages heard) (top_or_first first (all_reports pages heard)) else completes_promise n pages heard)
@@ -146,7 +148,8 @@ module _ {V : Type 0} {offers : List V} {l : Ledger V} (n : Node V) (sound : IsS
           all = sym (subst (λ (c : ℕ). joined_pages (pages_from had p) c ≡ promise.reports) (sym packet.counted) joined);
         }
 
-    -- the sender is heard if all its pages are there, else the page is kept; both preserve the invariant
+    -- the sender is heard if all its pages are there, else the page is kept; both preserve the
+    -- invariant
     gathers_either : (t : Bool) → are_received (pages_from had p) count ≡ t → Goes (if t then on_complete_promise n b first had (n.heard ++ record { node = p; count = count } ∷ []) else adds_page n had)
     gathers_either true all = hears_either b first had (n.heard ++ record { node = p; count = count } ∷ []) role
         record {
@@ -168,7 +171,8 @@ module _ {V : Type 0} {offers : List V} {l : Ledger V} (n : Node V) (sound : IsS
         })
         tt refl
 
-  -- a page is gathered if it is for the ballot and its sender is not heard, else nothing happens; both preserve the invariant
+  -- a page is gathered if it is for the ballot and its sender is not heard, else nothing happens;
+  -- both preserve the invariant
   comes_either : (p : ℕ) (b : Ballot) (number count : ℕ) (reports : List (SlotReport V)) → IsPagePacket l p b number count reports → (c : Ballot) (first : ℕ) → n.role ≡ Preparing c first
       → IsPreparing l n.me c first n.pages n.heard → (t : Bool) → (is_same b c && not (is_heard n.heard p)) ≡ t
       → Goes (if t then on_promise_page n p c first count (with_page n.pages p (number - 1) reports) else unchanged n)

@@ -1,4 +1,5 @@
--- A begin, an offer and a Nack preserve the invariant: a proposer begins each of its ballots once, and proposes only grounded values.
+-- A begin, an offer and a Nack preserve the invariant: a proposer begins each of its ballots once,
+-- and proposes only grounded values.
 use Rattle.net.proofs.Words.{◌≡◌, ℕ, zero, suc, ◌+◌, ◌≤◌, ◌^◌, Bool, true, false, ◌&&◌, ◌==◌, nat_lt, List, [], ◌∷◌, length, Option, Some, Result, Ok, Err, inl, inr, refl, ap, sym, subst, arith, if◌then◌else◌, AllByRecursion, SLOTS, In, Ballot, SlotReport, Prepare, Accept, Heard, Role, Idle, Preparing, Leading, MAX_VALUE_BYTES, MAX_WAITING, Refusal, Busy, LogFull, RoundsSpent, TooLong, is_below, Node, StepResult, unchanged, page_of, no_pages, log_length, waits, proposes_value, offer_as, offer_result, next_round, next_ballot, begins, begin_result, is_at, idles, on_nack, all_append}
 use Rattle.net.proofs.Ledger.{Begun, begun_as, Ledger, IsSound}
 use Rattle.net.proofs.LedgerGrows.{Grows, with_begun, grows-with_begun, begun_lasts, free_lasts}
@@ -135,13 +136,15 @@ module _ {V : Type 0} {offers : List V} {l : Ledger V} (n : Node V) (sound : IsS
     };
   } tt refl
 
-  -- an offer to a node that does not lead waits, which preserves the invariant, or is refused by one of two tests
+  -- an offer to a node that does not lead waits, which preserves the invariant, or is refused by
+  -- one of two tests
   waits_either : (v : V) → In v offers → (t u : Bool) → IfStep (if t then Err LogFull else if u then Ok (waits n v) else Err Busy) Goes
   waits_either v brought true u = tt
   waits_either v brought false true = waits_continues v brought
   waits_either v brought false false = tt
 
-  -- an offer to a leader takes the next slot, which preserves the invariant, or is refused if none is left
+  -- an offer to a leader takes the next slot, which preserves the invariant, or is refused if none
+  -- is left
   slot_either : (v : V) (b : Ballot) (next : ℕ) → In v offers → IsLeading n.weights l n.me b next → (t : Bool) → IfStep (if t then Err LogFull else Ok (proposes_value n b next v)) Goes
   slot_either v b next brought leading true = tt
   slot_either v b next brought leading false = takes_slot_continues v b next brought leading
@@ -152,7 +155,8 @@ module _ {V : Type 0} {offers : List V} {l : Ledger V} (n : Node V) (sound : IsS
   offer_as_continues v brought (Preparing b first) h = waits_either v brought (log_length n == SLOTS) (nat_lt (length n.waiting) MAX_WAITING)
   offer_as_continues v brought (Leading b next) h = slot_either v b next brought h (next == SLOTS)
 
-  -- if an answer preserves the invariant, unless it is a refusal, so it does with the length tested first
+  -- if an answer preserves the invariant, unless it is a refusal, so it does with the length tested
+  -- first
   long_either : (r : Result (StepResult V) Refusal) → IfStep r Goes → (t : Bool) → IfStep (if t then Err TooLong else r) Goes
   long_either r h true = tt
   long_either r h false = h

@@ -1,5 +1,6 @@
--- The values that a proposer may propose with the promises of a quorum (phase 2 of section 2.2): at a reported slot the value
--- reported there with the highest ballot; at any other slot from `first` on, any value. Each such proposal is grounded.
+-- The values that a proposer may propose with the promises of a quorum (phase 2 of section 2.2): at
+-- a reported slot the value reported there with the highest ballot; at any other slot from `first`
+-- on, any value. Each such proposal is grounded.
 use Rattle.net.proofs.Words.{◌≡◌, ℕ, zero, suc, ◌≤◌, Bool, true, false, ◌||◌, ◌==◌, List, [], ◌∷◌, Option, Some, None, inl, inr, refl, sym, ◌∙◌, subst, arith, eqb-true, AllByRecursion, In, In-append_left, In-append_right, In-append, Ballot, SlotReport, Heard, is_quorum, joined_pages, pages_from, is_heard, highest_at, reported_value, top_or_first, proposed_values, all_reports, Under, upto_upto, IsHighest, HighestHolds, highest_holds, below_top, Vote}
 use Rattle.net.proofs.Ledger.{begun_as, Promised, proposal, Ledger, HasPromised, NoneVoted, HighestVoted, IsGrounded, IsFree, HasHigher, IsBrought, IsSound}
 use Rattle.net.proofs.LedgerSteps.{EachGrounded}
@@ -79,7 +80,8 @@ module _ {V : Type 0} (ws : List ℕ) (offers : List V) (l : Ledger V) (b : Ball
   same_first : (p : Promised V) → In p l.promises → p.ballot ≡ b → p.first ≡ first
   same_first p i same = h.sound.begun_once (begun_as p.ballot p.first) (begun_as b first) (h.sound.truthful p i).begun h.begun same
 
-  -- for a vote of a heard node below the ballot, its slot is reported under the vote's ballot or a higher one
+  -- for a vote of a heard node below the ballot, its slot is reported under the vote's ballot or a
+  -- higher one
   vote_reported : (x : Vote V) → In x l.votes → is_heard heard x.node ≡ true → first ≤ x.slot → Under x.ballot b → HasHigher reports x
   vote_reported x i heard_node from under =
       let d = heard_from l b pages heard h.each x.node heard_node in
@@ -97,7 +99,8 @@ module _ {V : Type 0} (ws : List ℕ) (offers : List V) (l : Ledger V) (b : Ball
       let r = vote_reported x i heard_node (omega arith) under in
       none r.report r.is_in (r.slot ∙ at_s)
 
-  -- the highest report of a slot is of a proposal, and no node heard voted there under a higher ballot below b
+  -- the highest report of a slot is of a proposal, and no node heard voted there under a higher
+  -- ballot below b
   highest_voted : (s : ℕ) → first ≤ s → (r : SlotReport V) → IsHighest s reports r → HighestVoted l l.proposals (is_heard heard) b s r.value
   highest_voted s from r most =
       let t = reported_by l b pages heard h.each r most.is_in in
@@ -128,7 +131,8 @@ module _ {V : Type 0} (ws : List ℕ) (offers : List V) (l : Ledger V) (b : Ball
       let t = reported_by l b pages heard h.each r most.is_in in
       h.sound.brought _ (h.sound.backed _ ((h.sound.truthful t.promise t.is_in).backed r t.reported).voted)
 
-  -- the values proposed for the slots from s on, given the reports, are no-operations or were offered
+  -- the values proposed for the slots from s on, given the reports, are no-operations or were
+  -- offered
   pub fills_brought : (s count : ℕ) → AllByRecursion (IsBrought offers) (proposed_values reports s count)
   fills_brought s zero = tt
   fills_brought s (suc count) = (fill_brought s (highest_at s reports) (highest_holds s reports), fills_brought (suc s) count)

@@ -1,4 +1,5 @@
--- Worked runs, computed: the count of packets posted so far after each event, then the contents of single packets, and the logs.
+-- Worked runs, computed: the count of packets posted so far after each event, then the contents of
+-- single packets, and the logs.
 -- An entry is written as a number made of its author and serial: 71 is serial 1 of author 7.
 use Rattle.net.proofs.Words.{◌≡◌, ℕ, zero, suc, List, [], ◌∷◌, ◌++◌, length, Option, Some, None, Result, Ok, Err, refl, slice_get, Ballot, SlotReport, Packet, Prepare, Promise, Accept, Nack, Ask, Told, packet, Event, Offer, Begin, Deliver, Restart, StepFault, NoNode, NoPacket, World, start, event_result, after, log}
 

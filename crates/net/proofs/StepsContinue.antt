@@ -1,11 +1,13 @@
--- A step of a node preserves the invariant: the ledger with what the node did added is sound and agrees with the node and its packets.
+-- A step of a node preserves the invariant: the ledger with what the node did added is sound and
+-- agrees with the node and its packets.
 use Rattle.net.proofs.Words.{◌≡◌, ℕ, suc, Bool, true, false, ◌==◌, List, [], ◌∷◌, Option, if◌then◌else◌, AllByRecursion, Packet, Body, Accept, Ballot, packet, to_all_from, to_all, to_others_from, accept_posts, StepResult, votes_after, all_append}
 use Rattle.net.proofs.Ledger.{Ledger, IsSound}
 use Rattle.net.proofs.LedgerGrows.{Grows, grows_none}
 use Rattle.net.proofs.LedgerSteps.{EachProposed}
 use Rattle.net.proofs.Invariant.{NodeHolds, SaysTrue, IsTrue}
 
--- ledger l can grow by what node k did, so that it is sound and agrees with the step's node, posts and votes
+-- ledger l can grow by what node k did, so that it is sound and agrees with the step's node, posts
+-- and votes
 pub record Continues {V : Type 0} (ws : List ℕ) (offers : List V) (k : ℕ) (l : Ledger V) (step : StepResult V) : Type 0 where
   pub ledger : Ledger V
   pub grows : Grows k l ledger
@@ -14,7 +16,8 @@ pub record Continues {V : Type 0} (ws : List ℕ) (offers : List V) (k : ℕ) (l
   pub posts : AllByRecursion (IsTrue ws ledger) step.posts
   pub cast : ledger.votes ≡ votes_after k step.change l.votes
 
--- a step preserves the invariant with the same ledger, if that agrees with it and the step casts no vote
+-- a step preserves the invariant with the same ledger, if that agrees with it and the step casts no
+-- vote
 pub same_ledger : {V : Type 0} {ws : List ℕ} {offers : List V} {k : ℕ} {l : Ledger V} {step : StepResult V} → IsSound ws offers l → NodeHolds ws offers l k step.node
     → AllByRecursion (IsTrue ws l) step.posts → l.votes ≡ votes_after k step.change l.votes → Continues ws offers k l step
 same_ledger {k = k} {l = l} sound holds posts none_cast = record { ledger = l; grows = grows_none k l; sound = sound; node = holds; posts = posts; cast = none_cast }

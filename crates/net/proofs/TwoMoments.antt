@@ -1,4 +1,5 @@
--- From one moment of a run to a later one the weights stay, and votes that were cast remain cast; so a chosen value remains chosen.
+-- From one moment of a run to a later one the weights stay, and votes that were cast remain cast;
+-- so a chosen value remains chosen.
 use Rattle.net.proofs.Words.{◌≡◌, ℕ, List, [], ◌∷◌, ◌++◌, Option, Some, None, Result, Ok, Err, inr, refl, ap, sym, ◌∙◌, subst, length, slice_get, length-set, AllByRecursion, In, Change, Round, Entry, Packet, Refusal, Node, StepResult, offer_result, begin_result, on_packet, restarted, Event, Offer, Begin, Deliver, Restart, StepFault, Vote, IsChosen, World, start, votes_after, after_step_or_fault, at_node, delivered, event_result_without_limit, event_result, events_result, after, IsAfter}
 use Rattle.synod.specs.declared.change.Change.TheVariants.{Promise}
 use Rattle.net.proofs.LedgerGrows.{chosen_with_more}

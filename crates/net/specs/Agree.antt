@@ -1,6 +1,7 @@
 -- Agreement in one world, and between the worlds at two moments of one run.
 -- Source: Lamport, Paxos Made Simple, section 2.2; ChosenValuePersists is his P2b.
--- No code computes this; the laws of `agreement` say that it holds, which follows from the steps of the nodes.
+-- No code computes this; the laws of `agreement` say that it holds, which follows from the steps of
+-- the nodes.
 use Rattle.std.specs.Prelude.{◌≡◌, ℕ, true, List, ◌++◌, Option, Some, Contains, ◌⊎◌, Ok, slice_get}
 use Rattle.net.specs.Words.{Ballot, Packet, Accept, is_below, Event}
 use Rattle.net.specs.Chosen.{IsChosen, IsChosenAt}

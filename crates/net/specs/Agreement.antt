@@ -1,6 +1,7 @@
 -- Agreement at every moment of a history.
 -- Source: Lamport, Paxos Made Simple, section 2.2.
--- No code computes this; the contract of `Net::history` says that it holds, by the laws, for the events that a net took.
+-- No code computes this; the contract of `Net::history` says that it holds, by the laws, for the
+-- events that a net took.
 use Rattle.std.specs.Prelude.{◌≡◌, ◌⊎◌, ◌<◌, ℕ, List, length, take, suc, Result, Ok, Err, IsOk}
 use Rattle.net.specs.Words.{Event, StepFault, Memory}
 use Rattle.net.specs.World.{World, after}
@@ -16,7 +17,8 @@ pub record IsMoment {V : Type 0} (size : V → ℕ) (history : History V) (w : W
 pub record Agreement {V : Type 0} (size : V → ℕ) (history : History V) : Type 0 where
   -- no event of the history meets a fault
   pub is_taken : IsOk (world_of size history)
-  -- under one ballot at most one value is proposed for a slot, and a later ballot's value is the one chosen under an earlier
+  -- under one ballot at most one value is proposed for a slot, and a later ballot's value is the
+  -- one chosen under an earlier
   pub one_value : (w : World V) → IsMoment size history w → OneValue w
   pub later_value : (w : World V) → IsMoment size history w → ChosenValuePersists w
   -- values chosen at one slot, at any two moments, are equal
@@ -35,8 +37,9 @@ abbrev pub IsMetOrMemory : {V : Type 0} → Result (World V) StepFault → StepF
 IsMetOrMemory (Ok w) fault = fault ≡ Memory
 IsMetOrMemory (Err met) fault = fault ≡ met
 
--- the run stops at event i, from 0: the first i events are taken, and the fault is the one that event i meets, or Memory if it
--- meets none; or an allocation for the new nodes failed before the first event
+-- the run stops at event i, from 0: the first i events are taken, and the fault is the one that
+-- event i meets, or Memory if it meets none; or an allocation for the new nodes failed before the
+-- first event
 pub record RunStopsAt {V : Type 0} (size : V → ℕ) (weights : List ℕ) (events : List (Event V)) (i : ℕ) (fault : StepFault) : Type 0 where
   pub before : IsOk (after size weights (take i events))
   pub fault_is : ((i < length events) × IsMetOrMemory (after size weights (take (suc i) events)) fault) ⊎ ((i ≡ 0) × (fault ≡ Memory))

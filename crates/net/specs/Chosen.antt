@@ -4,7 +4,8 @@
 use Rattle.std.specs.Prelude.{◌≡◌, ℕ, Bool, true, List, Contains, Option}
 use Rattle.net.specs.Words.{Ballot, is_quorum}
 
--- a vote: the node accepted the value at the slot under the ballot; the value None is a no-operation
+-- a vote: the node accepted the value at the slot under the ballot; the value None is a
+-- no-operation
 pub record Vote (V : Type 0) : Type 0 where
   pub node : ℕ
   pub ballot : Ballot

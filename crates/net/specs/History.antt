@@ -1,6 +1,8 @@
--- The history of a net: its weights and the events that it took. Its nodes and packets are those of the world after them.
+-- The history of a net: its weights and the events that it took. Its nodes and packets are those of
+-- the world after them.
 -- Source: Lamport, Paxos Made Simple, section 3: the inputs of a state machine determine its run.
--- The code stores nodes and packets too; by the invariant of `Net` they are those of the world after the events.
+-- The code stores nodes and packets too; by the invariant of `Net` they are those of the world
+-- after the events.
 use Rattle.std.specs.Prelude.{◌≡◌, ℕ, List, [], ◌∷◌, ◌++◌, Result, length}
 use Rattle.net.specs.Words.{AllByRecursion, Packet, IsWeights, IsPost, Node, Core, Event, StepFault}
 use Rattle.net.specs.World.{World, after}

@@ -1,6 +1,8 @@
 -- The kept part of a node, which survives a restart, and the one change that an event makes to it.
--- Source: Lamport, Paxos Made Simple, section 2.5: an acceptor must remember in stable storage what it promised and accepted.
--- The crate `switch` stores the change before it commits the event, so before anything is posted; here both are in one step.
+-- Source: Lamport, Paxos Made Simple, section 2.5: an acceptor must remember in stable storage what
+-- it promised and accepted.
+-- The crate `switch` stores the change before it commits the event, so before anything is posted;
+-- here both are in one step.
 use Rattle.std.specs.Prelude.{◌≢◌, ℕ, List, [], ◌∷◌, Option, Some, None, Result, Ok, Err, slice_get}
 use Rattle.net.specs.Words.{option_map, Packet, Change, Refusal, KeptPart, Node, StepResult, kept_of, offer_result, begin_result, on_packet, restarted, Event, Offer, Begin, Deliver, Restart, StepFault}
 use Rattle.net.specs.World.{World, event_result}
@@ -9,7 +11,8 @@ use Rattle.net.specs.World.{World, event_result}
 abbrev pub kept_part : {V : Type 0} → World V → ℕ → Option (KeptPart V)
 kept_part w k = option_map kept_of (slice_get w.nodes k)
 
--- the node at which an event happens; for a Deliver the receiver of the packet, or None if there is no such packet
+-- the node at which an event happens; for a Deliver the receiver of the packet, or None if there is
+-- no such packet
 abbrev pub node_of_event : {V : Type 0} → List (Packet V) → Event V → Option ℕ
 node_of_event packets (Offer k v) = Some k
 node_of_event packets (Begin k) = Some k

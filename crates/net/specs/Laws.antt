@@ -1,4 +1,5 @@
--- The laws of the world, after every list of events of which none meets a fault, for any weights and any values.
+-- The laws of the world, after every list of events of which none meets a fault, for any weights
+-- and any values.
 -- Source: Lamport, Paxos Made Simple, section 2.2.
 -- A law has no code; it is about the steps of nodes that the contracts of `synod` cite.
 use Rattle.std.specs.Prelude.{◌≡◌, ◌≢◌, ℕ, List, [], ◌∷◌, ◌++◌, Some, Ok}
@@ -13,7 +14,8 @@ Always {V} fact = (size : V → ℕ) (weights : List ℕ) (events : List (Event 
 
 -- the fact holds of the worlds at any two moments of a run
 abbrev pub AtTwoMoments : {V : Type 0} → (World V → World V → Type 0) → Type 0
-AtTwoMoments {V} fact = (size : V → ℕ) (weights : List ℕ) (early late : List (Event V)) (w x : World V) → IsAfter size weights early w → IsAfter size weights (early ++ late) x → fact w x
+AtTwoMoments {V} fact = (size : V → ℕ) (weights : List ℕ) (early late : List (Event V)) (w x : World V)
+    → IsAfter size weights early w → IsAfter size weights (early ++ late) x → fact w x
 
 -- Agreement.
 
@@ -43,8 +45,9 @@ LogEntriesWereOffered V = Always {V = V} (λ events w. LogsOffered events w)
 
 -- The kept part.
 
--- after an event e and then a restart of node k, the kept part of k is the one before e with the change of e, whatever happens
--- at other nodes in between; so it does not matter whether any packet of e is delivered to them
+-- after an event e and then a restart of node k, the kept part of k is the one before e with the
+-- change of e, whatever happens at other nodes in between; so it does not matter whether any packet
+-- of e is delivered to them
 abbrev pub KeptPartSurvives : Type 0 → Type 0
 KeptPartSurvives V = (size : V → ℕ) (weights : List ℕ) (events others : List (Event V)) (e : Event V) (k : ℕ) (w x y : World V)
     → IsAfter size weights events w → event_result size w e ≡ Ok x → node_of w e ≡ Some k → AreOfOthers size k (Ok x) others

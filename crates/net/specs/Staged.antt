@@ -1,6 +1,7 @@
 -- A staged event: all that its step needs is allocated, and nothing is changed yet.
 -- Source: this project's choice, so that a change can be stored before its effects are visible.
--- The code holds the step that the node staged; for a restart, its posts and, once it is loaded, the record.
+-- The code holds the step that the node staged; for a restart, its posts and, once it is loaded,
+-- the record.
 use Rattle.std.specs.Prelude.{◌≡◌, ◌≤◌, ◌+◌, ℕ, List, [], ◌∷◌, ◌++◌, Option, Some, None, Result, Ok, Err, length, slice_get, slice_set}
 use Rattle.net.specs.Words.{AllByRecursion, Packet, Ask, Change, Refusal, IsPost, to_others, KeptPart, RecordView, Node, StepResult, kept_of, Core, KeepsCapacity, ReadyView, offer_result, begin_result, on_packet, reloaded, restarted, Event, Offer, Begin, Deliver, Restart, StepFault, Memory}
 use Rattle.net.specs.declared.staged.StagedWork.{StagedWork as RustWork}
@@ -9,7 +10,8 @@ use Rattle.net.specs.World.{World, fault_of, after_step_or_fault, event_result_w
 use Rattle.net.specs.KeptPart.{node_of, change_of, change_of_result}
 use Rattle.net.specs.History.{History, with_event}
 
--- the work of a node: a step, or a restart with its posts and the record that was loaded, if one was
+-- the work of a node: a step, or a restart with its posts and the record that was loaded, if one
+-- was
 pub data StagedWork (V : Type 0) : Type 0 where
   steps : ReadyView V → StagedWork V
   restarts : List (Packet V) → Option (KeptPart V) → StagedWork V
@@ -49,14 +51,16 @@ step_of (steps ready) n = ready.step
 step_of (restarts posts None) n = restarted n
 step_of (restarts posts (Some kept)) n = reloaded n kept
 
--- the work can be committed: for a step, the node is as it was when it staged the step, with at least that
--- capacity; for a restart, the posts ask all other nodes, and a loaded record is the kept part of the node
+-- the work can be committed: for a step, the node is as it was when it staged the step, with at
+-- least that capacity; for a restart, the posts ask all other nodes, and a loaded record is the
+-- kept part of the node
 abbrev pub IsReadyAt : {V : Type 0} → Core V → StagedWork V → Type 0
 IsReadyAt c (steps ready) = (c.node ≡ ready.before.node) × KeepsCapacity ready.before c
 IsReadyAt c (restarts posts None) = posts ≡ to_others c.node.me c.node.weights (Ask 0)
 IsReadyAt c (restarts posts (Some kept)) = (posts ≡ to_others c.node.me c.node.weights (Ask 0)) × (kept ≡ kept_of c.node)
 
--- the work is of the kind of the event: a restart without a record yet for a restart, a step for every other event
+-- the work is of the kind of the event: a restart without a record yet for a restart, a step for
+-- every other event
 abbrev pub IsOfEvent : {V : Type 0} → Event V → StagedWork V → Type 0
 IsOfEvent (Offer k v) (steps ready) = Unit {0}
 IsOfEvent (Begin k) (steps ready) = Unit {0}
@@ -75,7 +79,8 @@ pub record IsEventAt {V : Type 0} (size : V → ℕ) (w : World V) (k : ℕ) (e 
   pub change : change_of size w e ≡ change_of_result r
   pub node : node_of w e ≡ Some k
 
--- the event has the result r in every world with at least these packets in which node k has that state
+-- the event has the result r in every world with at least these packets in which node k has that
+-- state
 abbrev pub HasResult : {V : Type 0} → (V → ℕ) → List (Packet V) → ℕ → Node V → Event V → Result (StepResult V) Refusal → Type 0
 HasResult {V} size packets k n e r = (w : World V) (more : List (Packet V)) → w.packets ≡ packets ++ more → slice_get w.nodes k ≡ Some n → IsEventAt size w k e r
 
@@ -101,13 +106,15 @@ IsStagingResultAt old new k e (Err met) (Err fault) = fault ≡ fault_of met
 abbrev pub IsStagingResultOfEvent : {V : Type 0} → (V → ℕ) → List (Packet V) → Core V → Core V → ℕ → Event V → Result (StagedEvent V) StepFault → Type 0
 IsStagingResultOfEvent size packets old new k (Offer j v) result = IsStagingResultAt old new k (Offer j v) (offer_result size old.node v) result
 IsStagingResultOfEvent size packets old new k (Begin j) result = IsStagingResultAt old new k (Begin j) (begin_result old.node) result
-IsStagingResultOfEvent {V} size packets old new k (Deliver number) result = (p : Packet V) → slice_get packets number ≡ Some p → IsStagingResultAt old new k (Deliver number) (Ok (on_packet old.node p)) result
+IsStagingResultOfEvent {V} size packets old new k (Deliver number) result = (p : Packet V)
+    → slice_get packets number ≡ Some p
+    → IsStagingResultAt old new k (Deliver number) (Ok (on_packet old.node p)) result
 IsStagingResultOfEvent size packets old new k (Restart j) result = IsStagingResultAt old new k (Restart j) (Ok (restarted old.node)) result
 
 -- The net.
 
--- a net as contracts see it: the events taken, the nodes with their capacity, the packets, and the capacity for
--- packets and events
+-- a net as contracts see it: the events taken, the nodes with their capacity, the packets, and the
+-- capacity for packets and events
 pub record NetView (V : Type 0) : Type 0 where
   pub history : History V
   pub cores : List (Core V)

@@ -1,7 +1,11 @@
--- The world, that is all nodes and packets, after a list of events: each event is a step of one node, and packets stay.
--- Source: Lamport, Paxos Made Simple, sections 2.1 and 3 (messages may be lost, repeated and delayed, agents restart).
--- The code stores the present nodes, the packets and the events that led there; the world here also has every vote.
-use Rattle.std.specs.Prelude.{ℕ, suc, ◌+◌, ◌==◌, List, [], ◌∷◌, ◌++◌, Option, Some, None, Result, Ok, Err, slice_get, slice_set, if◌then◌else◌}
+-- The world, that is all nodes and packets, after a list of events: each event is a step of one
+-- node, and packets stay.
+-- Source: Lamport, Paxos Made Simple, sections 2.1 and 3 (messages may be lost, repeated and
+-- delayed, agents restart).
+-- The code stores the present nodes, the packets and the events that led there; the world here also
+-- has every vote.
+use Rattle.std.specs.Prelude.{◌≡◌, ℕ, suc, ◌+◌, ◌==◌, List, [], ◌∷◌, ◌++◌, Option, Some, None, MatchOption, Result, Ok, Err, slice_get, slice_set, if◌then◌else◌}
+use Rattle.std.specs.Borrow.{Bor}
 use Rattle.net.specs.Words.{Packet, Change, Round, Promise, Entry, Refusal, Node, StepResult, new_node, log_of, offer_result, begin_result, on_packet, restarted, MAX_EVENTS, Event, Offer, Begin, Deliver, Restart, StepFault, Busy, LogFull, RoundsSpent, TooLong, Memory, NoNode, NoPacket, EventsSpent}
 use Rattle.synod.specs.declared.refusal.Refusal.TheVariants.{Busy as NodeBusy, LogFull as NodeLogFull, RoundsSpent as NodeRoundsSpent, TooLong as NodeTooLong, Memory as NodeMemory}
 use Rattle.net.specs.Chosen.{Vote, vote}
@@ -13,7 +17,8 @@ pub record World (V : Type 0) : Type 0 where
   pub votes_cast : List (Vote V)  -- every vote ever cast, newest first
   pub event_count : ℕ  -- the number of events taken
 
--- a new node for each weight of the second list, numbered from k; the first list has the weights of all nodes of the log
+-- a new node for each weight of the second list, numbered from k; the first list has the weights of
+-- all nodes of the log
 abbrev pub nodes_from : {V : Type 0} → List ℕ → ℕ → List ℕ → List (Node V)
 nodes_from weights k [] = []
 nodes_from weights k (w ∷ ws) = new_node k weights ∷ nodes_from weights (suc k) ws
@@ -62,8 +67,8 @@ abbrev pub delivered : {V : Type 0} → World V → Option (Packet V) → Result
 delivered w None = Err NoPacket
 delivered w (Some p) = at_node w p.to (λ n. Ok (on_packet n p)) (slice_get w.nodes p.to)
 
--- the world after the event, or the fault that it meets, without the limit on the number of events; size gives the length of a
--- value
+-- the world after the event, or the fault that it meets, without the limit on the number of events;
+-- size gives the length of a value
 abbrev pub event_result_without_limit : {V : Type 0} → (V → ℕ) → World V → Event V → Result (World V) StepFault
 event_result_without_limit size w (Offer k v) = at_node w k (λ n. offer_result size n v) (slice_get w.nodes k)
 event_result_without_limit size w (Begin k) = at_node w k begin_result (slice_get w.nodes k)
@@ -80,7 +85,8 @@ events_result size [] r = r
 events_result size (e ∷ es) (Err fault) = Err fault
 events_result size (e ∷ es) (Ok w) = events_result size es (event_result size w e)
 
--- the world after these events, or the fault of the first that is refused; size gives the length of a value
+-- the world after these events, or the fault of the first that is refused; size gives the length of
+-- a value
 abbrev pub after : {V : Type 0} → (V → ℕ) → List ℕ → List (Event V) → Result (World V) StepFault
 after size weights events = events_result size events (Ok (start weights))
 
@@ -101,6 +107,15 @@ log_after (Err fault) k = []
 abbrev pub packets_after : {V : Type 0} → Result (World V) StepFault → List (Packet V)
 packets_after (Ok w) = w.packets
 packets_after (Err fault) = []
+
+-- the entry at a slot of the log of node k after some events; None if the log is not that long, or
+-- an event meets a fault
+abbrev pub log_entry : {V : Type 0} → Result (World V) StepFault → ℕ → ℕ → Option (Option V)
+log_entry r k slot = slice_get (log_after r k) slot
+
+-- what was found is that entry
+abbrev pub IsLogEntry : {V : Type 0} → Result (World V) StepFault → ℕ → ℕ → Option (Bor (Option V)) → Type 0
+IsLogEntry r k slot found = MatchOption found (log_entry r k slot ≡ None) (λ entry. log_entry r k slot ≡ Some entry.now)
 
 -- the values that the events offer
 abbrev pub offers_of : {V : Type 0} → List (Event V) → List V

@@ -5,9 +5,9 @@ use std::alloc::AllocError;
 use synod::{Failed, Refusal};
 use thiserror::Error;
 
-/// Why an event was refused. If several faults apply, a net returns the first in this order: `EventsSpent`, `NoNode`,
-/// `NoPacket`, `TooLong`, `LogFull`, `RoundsSpent`, `Busy`, `Memory`. It never returns the other four, which are for the crates
-/// `switch`, `cluster` and `nodes`.
+/// Why an event was refused. If several faults apply, a net returns the first in this order:
+/// `EventsSpent`, `NoNode`, `NoPacket`, `TooLong`, `LogFull`, `RoundsSpent`, `Busy`, `Memory`. It
+/// never returns the other four, which are for the crates `switch`, `cluster` and `nodes`.
 #[derive(Debug, Clone, Copy, PartialEq, Eq, Error)]
 pub enum StepFault {
     /// 64 values are waiting at the node.
@@ -34,7 +34,8 @@ pub enum StepFault {
     /// The world has taken `MAX_EVENTS` events.
     #[error("no event is left")]
     EventsSpent,
-    /// A store or a load of the node's record failed. Only `switch` and the crates above it return it.
+    /// A store or a load of the node's record failed. Only `switch` and the crates above it return
+    /// it.
     #[error("the store failed")]
     Device,
     /// The node is down. Only `switch` and the crates above it return it.
@@ -43,8 +44,8 @@ pub enum StepFault {
     /// The threads of the nodes were stopped. Only `nodes` and the crates above it return it.
     #[error("the cluster is stopped")]
     Stopped,
-    /// The given cell (a node's library and the entries for it) belongs to another node or another switch. Only `cluster` and
-    /// the crates above it return it.
+    /// The given cell (a node's library and the entries for it) belongs to another node or another
+    /// switch. Only `cluster` and the crates above it return it.
     #[error("the libraries are apart")]
     Apart,
 }

@@ -1,8 +1,8 @@
 //! The laws of agreement, each the contract of a function that does nothing.
 ghost use Rattle.net.specs.Laws.{BallotsHaveOneValue, ChosenValuesPersist, ChosenValuesAgree, LogEntriesAreChosen, LogsOfNodesAgree, LogEntriesWereOffered, KeptPartSurvives, LogsOnlyGrow, RestartEmptiesLog};
 
-/// States agreement after any events of which none meets a fault, whatever was lost, repeated or delayed and whichever
-/// nodes restarted, for any weights and any values.
+/// States agreement after any events of which none meets a fault, whatever was lost, repeated or
+/// delayed and whichever nodes restarted, for any weights and any values.
 ///
 /// Source: Lamport, Paxos Made Simple, section 2.2.
 pub fn agreement<V>()
@@ -14,8 +14,9 @@ pub fn agreement<V>()
     ensures logs_offered { LogEntriesWereOffered V }
 {}
 
-/// States that a node's kept part survives restarts: after an event and then a restart of one node, it is the part before
-/// the event with the change of the event, whether or not any packet of the event is ever delivered.
+/// States that a node's kept part survives restarts: after an event and then a restart of one node,
+/// it is the part before the event with the change of the event, whether or not any packet of the
+/// event is ever delivered.
 ///
 /// Source: Lamport, Paxos Made Simple, section 2.5.
 pub fn kept_part<V>()

@@ -1,11 +1,13 @@
 //! All nodes and all packets of one replicated log of any values, driven by events.
 //!
-//! The contract that the crates above use is `agreement`, which `Net::history` states for every net: any two logs, of any nodes
-//! at any moments, agree (one is a prefix of the other), whatever packets were lost, repeated or delayed and whichever nodes
-//! restarted. `kept_part` states which part of a node survives a restart; `logs_grow` states that only a restart shortens a log.
+//! The contract that the crates above use is `agreement`, which `Net::history` states for every
+//! net: any two logs, of any nodes at any moments, agree (one is a prefix of the other), whatever
+//! packets were lost, repeated or delayed and whichever nodes restarted. `kept_part` states which
+//! part of a node survives a restart; `logs_grow` states that only a restart shortens a log.
 //!
-//! Read `event` and `fault`, then the definitions: specs/World, Chosen, Agree, KeptPart, Laws, History, Agreement; then `laws`,
-//! `staged` (an event that is ready to be committed), `net` and `node_state`.
+//! Read `event` and `fault`, then the definitions: specs/World, Chosen, Agree, KeptPart, Laws,
+//! History, Agreement; then `laws`, `staged` (an event that is ready to be committed), `net` and
+//! `node_state`.
 #![tactic(auto)]
 
 mod event;

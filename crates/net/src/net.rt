@@ -1,4 +1,5 @@
-//! A net: the nodes of a log, all packets that they posted, and the events that led there, over any values.
+//! A net: the nodes of a log, all packets that they posted, and the events that led there, over any
+//! values.
 ghost use Rattle.synod.specs.Weights.{IsWeights};
 ghost use Rattle.net.specs.History.{nodes_of};
 ghost use Rattle.net.specs.World.{nodes_from};
@@ -11,10 +12,11 @@ use std::alloc::{AllocError, Global};
 use std::marker::Model;
 use synod::{NodeCore, Packet, Value, Weights};
 
-/// The nodes of a world and their packets. Contracts see the weights, the events taken, the nodes and packets of the world
-/// after them, and the reserved capacity.
+/// The nodes of a world and their packets. Contracts see the weights, the events taken, the nodes
+/// and packets of the world after them, and the reserved capacity.
 ///
-/// Source: Lamport, Paxos Made Simple, sections 2 and 3; `specs/World.antt` defines the world after a list of events.
+/// Source: Lamport, Paxos Made Simple, sections 2 and 3; `specs/World.antt` defines the world after
+/// a list of events.
 #[derive(Drop)]
 pub struct Net<V: Value> {
     weights: Weights,
@@ -42,9 +44,9 @@ impl<V: Value> Model for Net<V> {
 }
 
 impl<V: Value> Net<V> {
-    ghost use Rattle.std.specs.Prelude.{slice_get, IfErr, IsSome, MatchOption};
+    ghost use Rattle.std.specs.Prelude.{slice_get, IfErr, IsSome};
     ghost use Rattle.slots.specs.declared.slots.TheConstants.{SLOTS};
-    ghost use Rattle.net.specs.World.{log_after, packets_after};
+    ghost use Rattle.net.specs.World.{log_after, packets_after, IsLogEntry};
     ghost use Rattle.net.specs.History.{AreOfWorld, world_of, with_event};
     ghost use Rattle.net.specs.KeptPart.{node_of_event};
     ghost use Rattle.net.specs.Staged.{IsStagingResultInNet, HasSpareCapacity, IsStaged, IsOfEvent, ChangesOnlyCapacity, IsTaken, posts_of};
@@ -69,7 +71,8 @@ impl<V: Value> Net<V> {
 
     /// Stages an event: allocates all that its step needs, and changes nothing but capacity.
     ///
-    /// Errors: the first fault that the event meets, or `Memory` if it meets none. Cost: that of the step at its node.
+    /// Errors: the first fault that the event meets, or `Memory` if it meets none. Cost: that of
+    /// the step at its node.
     pub fn stage(&mut self, event: Event<V>) -> Result<StagedEvent<V>, StepFault>
         ensures staged { IfOk result (IsStaged V.bytes self.new) }
         ensures event { IfOk result (λ staged. staged.event ≡ event) }
@@ -90,8 +93,8 @@ impl<V: Value> Net<V> {
         Ok(staged)
     }
 
-    /// Returns the node at which an event happens; for a delivery the receiver of the packet, or `None` if there is no such
-    /// packet.
+    /// Returns the node at which an event happens; for a delivery the receiver of the packet, or
+    /// `None` if there is no such packet.
     pub fn node_of(&self, event: &Event<V>) -> Option<u8>
         ensures { result ≡ node_of_event self.now.packets event.now }
     {
@@ -106,7 +109,8 @@ impl<V: Value> Net<V> {
         }
     }
 
-    /// Stages an event at its node, and reserves no capacity for its posts among the packets of the net.
+    /// Stages an event at its node, and reserves no capacity for its posts among the packets of the
+    /// net.
     fn stage_at_node(&mut self, event: Event<V>) -> Result<StagedEvent<V>, StepFault>
         requires { length self.old.history.events < MAX_EVENTS }
         ensures staged { IsStagingResultInNet V.bytes self.new event (world_of V.bytes (with_event self.old.history event)) result }
@@ -134,7 +138,8 @@ impl<V: Value> Net<V> {
         Ok(())
     }
 
-    /// Commits a staged event, and returns the number of packets posted so far. It does not allocate.
+    /// Commits a staged event, and returns the number of packets posted so far. It does not
+    /// allocate.
     pub fn commit(&mut self, staged: StagedEvent<V>) -> u64
         requires staged { IsStaged V.bytes self.old staged }
         requires capacity { HasSpareCapacity self.old (length (posts_of staged.work)) 1 }
@@ -152,8 +157,8 @@ impl<V: Value> Net<V> {
 
     /// Stages an event and commits it. Returns the number of packets posted so far.
     ///
-    /// Errors: the first fault that the event meets, or `Memory` if it meets none; the events taken, and so the nodes and
-    /// packets, are then unchanged.
+    /// Errors: the first fault that the event meets, or `Memory` if it meets none; the events
+    /// taken, and so the nodes and packets, are then unchanged.
     pub fn step(&mut self, event: Event<V>) -> Result<u64, StepFault>
         ensures taken { OnOk result (self.new.history ≡ with_event self.old.history event) }
         ensures posted { IfOk result (λ count. count ≡ length (packets_after (world_of V.bytes self.new.history))) }
@@ -167,7 +172,8 @@ impl<V: Value> Net<V> {
         Ok(self.commit(staged))
     }
 
-    /// Returns the events taken, oldest first. None of them meets a fault, and agreement holds after every prefix of them.
+    /// Returns the events taken, oldest first. None of them meets a fault, and agreement holds
+    /// after every prefix of them.
     pub fn history(&self) -> &[Event<V>]
         ensures events { result.now ≡ self.now.history.events }
         ensures few { length self.now.history.events ≤ MAX_EVENTS }
@@ -177,12 +183,12 @@ impl<V: Value> Net<V> {
         &self.events
     }
 
-    /// Returns entry `slot` of the log of node `k`, or `None` if the log is not that long. An entry that is itself
-    /// `None` is a no-operation. It does not allocate.
+    /// Returns entry `slot` of the log of node `k`, or `None` if the log is not that long. An entry
+    /// that is itself `None` is a no-operation. It does not allocate.
     ///
     /// Errors: `NoNode`.
     pub fn entry(&self, k: u8, slot: u32) -> Result<Option<&Option<V>>, StepFault>
-        ensures entry { IfOk result (λ found. MatchOption found (slice_get (log_after (world_of V.bytes self.now.history) k) slot ≡ None) (λ entry. slice_get (log_after (world_of V.bytes self.now.history) k) slot ≡ Some entry.now)) }
+        ensures entry { IfOk result (IsLogEntry (world_of V.bytes self.now.history) k slot) }
         ensures below { IfOk result (λ found. IsSome found → slot < SLOTS) }
         ensures no_node { length self.now.history.weights ≤ k → result ≡ Err NoNode }
         ensures node { k < length self.now.history.weights → IsOk result }
@@ -193,7 +199,8 @@ impl<V: Value> Net<V> {
         }
     }
 
-    /// Returns the log of node `k`: the entries that it learned, up to its first gap. A `None` is a no-operation.
+    /// Returns the log of node `k`: the entries that it learned, up to its first gap. A `None` is a
+    /// no-operation.
     ///
     /// Errors: `NoNode`; else `Memory`. Cost: the size of the log; each value is copied once.
     pub fn log(&self, k: u8) -> Result<Vec<Option<V>>, StepFault>
@@ -207,7 +214,8 @@ impl<V: Value> Net<V> {
         }
     }
 
-    /// Returns the packet with this number, counted from 0 in the order of posting. It does not allocate.
+    /// Returns the packet with this number, counted from 0 in the order of posting. It does not
+    /// allocate.
     ///
     /// Errors: `NoPacket`.
     pub fn packet(&self, number: u64) -> Result<&Packet<V>, StepFault>

@@ -1,4 +1,5 @@
-//! The state that a node of a world reports: role, promise, length of the log, count of waiting values.
+//! The state that a node of a world reports: role, promise, length of the log, count of waiting
+//! values.
 ghost use Rattle.std.specs.Prelude.{◌≡◌, ◌≤◌, ◌<◌, Err, Some, length, IfOk, IsOk, IsOkUnless};
 
 use crate::fault::StepFault;

@@ -86,7 +86,8 @@ impl<V: Value> StagedEvent<V> {
 
 /// Stages an event at its node.
 ///
-/// Errors: the node's refusal, or `Memory`. Cost: that of the step; an offer copies its value once, for the history.
+/// Errors: the node's refusal, or `Memory`. Cost: that of the step; an offer copies its value once,
+/// for the history.
 pub(crate) fn stage_event<V: Value>(
     node: &mut NodeCore<V>,
     k: u8,

@@ -1,4 +1,5 @@
--- Each change by a desk is an event of the switch, as the contract of the call under the lock states.
+-- Each change by a desk is an event of the switch, as the contract of the call under the lock
+-- states.
 use Rattle.nodes.proofs.Words.{◌≡◌, ℕ, List, [], ◌∷◌, ◌++◌, Result, Ok, Err, refl, sym, subst, IfErr, IsErrAnd, Event, Deliver, StepFault, SwitchView, Plays, Carried, carried_size, IsResultOf, DeliversAll}
 
 -- A fault that `?` returns.

@@ -1,4 +1,5 @@
--- The names used in the proofs of this crate, with lemmas of std and of the layers below, re-exported from one place.
+-- The names used in the proofs of this crate, with lemmas of std and of the layers below,
+-- re-exported from one place.
 pub use Rattle.cluster.specs.Cell.{Cell}
 pub use Rattle.cluster.specs.Cells.{new_cells}
 pub use Rattle.net.specs.KeptPart.{node_of}

@@ -1,6 +1,7 @@
 -- The answers of a desk: those of the calls of a cluster on the values under the locks.
 -- Source: this project's profile.
--- The code releases the locks before it returns, so the definitions state that there are such values.
+-- The code releases the locks before it returns, so the definitions state that there are such
+-- values.
 -- `Plays carried_size old new e answer` (crate `switch`): at the switch `old`, the event e has this
 -- answer, the count of packets posted so far or a fault, and leaves the switch `new`.
 -- `carried_size` is the size of an entry in bytes.
@@ -14,7 +15,8 @@ pub record IsListed (k : ℕ) (list : List Listed) : Type 0 where
   pub is_cell : IsCell cell
   pub lists : list ≡ listed cell.node_library.library.statements
 
--- the verdict of the library of some cell of node k on the author's entry of that serial number, if it has decided one
+-- the verdict of the library of some cell of node k on the author's entry of that serial number, if
+-- it has decided one
 pub record IsStatus (k author serial : ℕ) (verdict : Option Verdict) : Type 0 where
   pub cell : Cell
   pub at : cell.node ≡ k
@@ -35,7 +37,8 @@ pub record IsCompared (j k : ℕ) (ahead : Ahead) : Type 0 where
 
 -- The rest is about the events that calls at a desk play on the switch.
 
--- the result of a call is that of the event at the switch: some count of packets if it is taken, else its fault
+-- the result of a call is that of the event at the switch: some count of packets if it is taken,
+-- else its fault
 abbrev pub IsResultOf : {A : Type 0} → SwitchView Carried → SwitchView Carried → Event Carried → Result A StepFault → Type 0
 IsResultOf old new e (Ok answer) = (count : ℕ) × Plays carried_size old new e (Ok count)
 IsResultOf old new e (Err fault) = Plays carried_size old new e (Err fault)
@@ -43,7 +46,8 @@ IsResultOf old new e (Err fault) = Plays carried_size old new e (Err fault)
 -- packets are delivered one after another, whatever the result of each delivery
 abbrev pub DeliversAll : SwitchView Carried → SwitchView Carried → List ℕ → Type 0
 DeliversAll old new [] = new ≡ old
-DeliversAll old new (number ∷ numbers) = (between : SwitchView Carried) × (answer : Result ℕ StepFault) × Plays carried_size old between (Deliver number) answer × DeliversAll between new numbers
+DeliversAll old new (number ∷ numbers) = (between : SwitchView Carried) × (answer : Result ℕ StepFault)
+    × Plays carried_size old between (Deliver number) answer × DeliversAll between new numbers
 
 -- the event has this result at some switch
 pub record IsPlayed (e : Event Carried) (answer : Result ℕ StepFault) : Type 0 where
@@ -55,6 +59,7 @@ pub record IsPlayed (e : Event Carried) (answer : Result ℕ StepFault) : Type 0
 abbrev pub IsPlayFault : Event Carried → StepFault → Type 0
 IsPlayFault e fault = (fault ≡ Stopped) ⊎ IsPlayed e (Err fault)
 
--- the fault is that the cluster is stopped, that the cell is not of its node, or that of the restart
+-- the fault is that the cluster is stopped, that the cell is not of its node, or that of the
+-- restart
 abbrev pub IsRestartFault : ℕ → StepFault → Type 0
 IsRestartFault k fault = (fault ≡ Stopped) ⊎ (fault ≡ Apart) ⊎ IsPlayed (Restart k) (Err fault)

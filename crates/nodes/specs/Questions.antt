@@ -1,6 +1,7 @@
 -- The answers of a desk to questions about the state of a node, and about the history.
 -- Source: this project's profile.
--- The code releases the lock before it returns, so the definitions state that there is such a cell or switch.
+-- The code releases the lock before it returns, so the definitions state that there is such a cell
+-- or switch.
 use Rattle.std.specs.Prelude.{◌≡◌, ℕ, List, Some, IsOk}
 use Rattle.net.specs.NodeStates.{state_after}
 use Rattle.switch.specs.Switch.{is_down_at}

@@ -20,10 +20,12 @@ const MAX_TRIES: u32 = 17;
 /// each further try, up to `MAX_DOUBLINGS` times.
 const FIRST_WAIT: u64 = 1024;
 
-/// The greatest number of times that the wait doubles. So all waits together have fewer than 10,000,000 turns.
+/// The greatest number of times that the wait doubles. So all waits together have fewer than
+/// 10,000,000 turns.
 const MAX_DOUBLINGS: u32 = 9;
 
-/// The number of turns from one query for the outcome to the next. Each query takes the lock that the node's thread needs.
+/// The number of turns from one query for the outcome to the next. Each query takes the lock that
+/// the node's thread needs.
 const YIELDS_PER_QUERY: u64 = 64;
 
 /// 2^64 divided by the golden ratio: its multiples modulo 2^64 are far from one another.
@@ -31,14 +33,14 @@ const GOLDEN: u64 = 0x9E37_79B9_7F4A_7C15;
 
 impl<G: Gate, K: Keep<Carried>> Desk<G, K> {
     /// Submits an entry at node `k`, repeatedly until a verdict on it is known there. Returns the
-    /// verdict, or `Repeat` if another entry was decided under this author and serial number; `None`
-    /// if after 17 tries nothing is known there.
+    /// verdict, or `Repeat` if another entry was decided under this author and serial number;
+    /// `None` if after 17 tries nothing is known there.
     ///
-    /// The first try begins a ballot if the node does not lead, and each later try does in any case: a slot
-    /// whose packets were lost stays open until a ballot proposes it again, even at a node that
-    /// leads, and every later slot waits for it. Up to the tenth, each try waits longer than the one
-    /// before it, and the waits of two nodes differ, so that two proposers do not keep preempting
-    /// each other. An entry that is submitted several times is decided once.
+    /// The first try begins a ballot if the node does not lead, and each later try does in any
+    /// case: a slot whose packets were lost stays open until a ballot proposes it again, even at a
+    /// node that leads, and every later slot waits for it. Up to the tenth, each try waits longer
+    /// than the one before it, and the waits of two nodes differ, so that two proposers do not keep
+    /// preempting each other. An entry that is submitted several times is decided once.
     ///
     /// Errors: those of `submit` except `Busy`, and those of `begin`; `Apart` if the cell is not
     /// that of its node; `Memory`. After an error the entry may still be decided. Cost: at most 17
@@ -85,7 +87,8 @@ impl<G: Gate, K: Keep<Carried>> Desk<G, K> {
         }
     }
 
-    /// Returns the outcome of the entry at node `k` as soon as it is known, at the latest after `yields` turns.
+    /// Returns the outcome of the entry at node `k` as soon as it is known, at the latest after
+    /// `yields` turns.
     fn await_outcome<R: Wait>(
         &self,
         rt: &R,
@@ -119,8 +122,9 @@ impl<G: Gate, K: Keep<Carried>> Desk<G, K> {
     }
 }
 
-/// Returns the number of turns that node `k` waits after the try of number `attempt`, from 0: `FIRST_WAIT`, doubled for
-/// each try up to `MAX_DOUBLINGS` times, plus a fraction of that, which differs from node to node and from try to try.
+/// Returns the number of turns that node `k` waits after the try of number `attempt`, from 0:
+/// `FIRST_WAIT`, doubled for each try up to `MAX_DOUBLINGS` times, plus a fraction of that, which
+/// differs from node to node and from try to try.
 fn wait_after(k: u8, attempt: u32) -> u64 {
     let least = FIRST_WAIT << attempt.min(MAX_DOUBLINGS);
     let fraction = (u64::from(attempt) * 256 + u64::from(k) + 1).wrapping_mul(GOLDEN) >> 32;

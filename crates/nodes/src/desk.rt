@@ -70,9 +70,9 @@ impl<G: Gate, K: Keep<Carried>> Desk<G, K> {
 
     /// Restarts node `k` from the record in its keep.
     ///
-    /// Errors: `Stopped` once the cluster is stopped; if there is no such node, `EventsSpent` if no event is left and else
-    /// `NoNode`; `Apart` if the cell is not that of its node; else those of `cluster::restart_on`. Cost: that of
-    /// `cluster::restart_on`.
+    /// Errors: `Stopped` once the cluster is stopped; if there is no such node, `EventsSpent` if no
+    /// event is left and else `NoNode`; `Apart` if the cell is not that of its node; else those of
+    /// `cluster::restart_on`. Cost: that of `cluster::restart_on`.
     pub fn restart<R: Wait>(&self, rt: &R, k: u8) -> Result<(), StepFault>
         ensures restarted { OnOk result ((count : ℕ) × IsPlayed (Restart k) (Ok count)) }
         ensures refused { k < self.now → IfErr result (IsRestartFault k) }
@@ -100,7 +100,8 @@ impl<G: Gate, K: Keep<Carried>> Desk<G, K> {
 
     /// Returns the assertions of node `k`'s library, in order.
     ///
-    /// Errors: `NoNode`; else `Apart` if the cell is not that of its node; else `Memory`. Cost: one pass over all statements.
+    /// Errors: `NoNode`; else `Apart` if the cell is not that of its node; else `Memory`. Cost: one
+    /// pass over all statements.
     pub fn list<R: Wait>(&self, rt: &R, k: u8) -> Result<Vec<Listed>, StepFault>
         ensures listed { IfOk result (λ list. IsListed k list.items) }
         ensures no_node { self.now ≤ k → result ≡ Err NoNode }
@@ -113,10 +114,11 @@ impl<G: Gate, K: Keep<Carried>> Desk<G, K> {
         Ok(list_on(&shared_cell.cell)?)
     }
 
-    /// Returns the verdict of node `k`'s library on the author's entry of that serial number, or `None` if it is not
-    /// decided there.
+    /// Returns the verdict of node `k`'s library on the author's entry of that serial number, or
+    /// `None` if it is not decided there.
     ///
-    /// Errors: `NoNode`; else `Apart` if the cell is not that of its node. Cost: that of `Library::status`.
+    /// Errors: `NoNode`; else `Apart` if the cell is not that of its node. Cost: that of
+    /// `Library::status`.
     pub fn status<R: Wait>(
         &self,
         rt: &R,

@@ -10,8 +10,9 @@
 //! sent to the thread of its receiver. A thread passes a *gate* before it applies an entry and
 //! before it checks a proof.
 //!
-//! Read `weather`, `shared_switch` and `shared_cell` (what the switch's and a node's lock guard), `shared_nodes` (the locks),
-//! `node_loop` (a node's thread), then `node_threads`, `desk`, `questions`, `adding` and `report`.
+//! Read `weather`, `shared_switch` and `shared_cell` (what the switch's and a node's lock guard),
+//! `shared_nodes` (the locks), `node_loop` (a node's thread), then `node_threads`, `desk`,
+//! `questions`, `adding` and `report`.
 #![tactic(auto)]
 
 mod adding;

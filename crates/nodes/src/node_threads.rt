@@ -27,8 +27,8 @@ use synod::{Keep, Weights};
 use verify_pool::{Gate, PoolSize};
 use world::Carried;
 
-/// A running cluster: the threads of its nodes. It cannot be sent to another thread. If it is dropped without `stop`, the
-/// threads stay blocked. Contracts see the number of nodes.
+/// A running cluster: the threads of its nodes. It cannot be sent to another thread. If it is
+/// dropped without `stop`, the threads stay blocked. Contracts see the number of nodes.
 #[derive(Drop)]
 pub struct Cluster<G: Gate, K: Keep<Carried>> {
     alloc: Global,
@@ -48,11 +48,12 @@ impl<G: Gate, K: Keep<Carried>> Model for Cluster<G, K> {
     ghost invariant = { λ c. vec_len (arc_value c.shared).cells ≡ c.node_count };
 }
 
-/// Starts the nodes' threads: for each weight a node with its keep, whose record is that of a new node, and its weather. The
-/// proofs of each entry that a node applies are checked by `workers` threads. A thread passes `gate` before it applies an entry
-/// and before it checks a proof.
+/// Starts the nodes' threads: for each weight a node with its keep, whose record is that of a new
+/// node, and its weather. The proofs of each entry that a node applies are checked by `workers`
+/// threads. A thread passes `gate` before it applies an entry and before it checks a proof.
 ///
-/// Errors: `Memory`, if an allocation fails or a thread cannot be started; the threads that were started have then ended.
+/// Errors: `Memory`, if an allocation fails or a thread cannot be started; the threads that were
+/// started have then ended.
 pub fn start<
     G: Gate + Send + Sync + Drop + 'static,
     W: Weather + Send + Drop + 'static,
@@ -214,8 +215,8 @@ impl<G: Gate, K: Keep<Carried>> Cluster<G, K> {
 
     /// Closes the channels, joins the threads, and counts each node's events.
     ///
-    /// Errors: `Stopped` if the cluster was stopped before; else `Memory`, and the cluster keeps running. Cost: one pass over the
-    /// history.
+    /// Errors: `Stopped` if the cluster was stopped before; else `Memory`, and the cluster keeps
+    /// running. Cost: one pass over the history.
     pub fn stop<R: Threads + Wait>(&mut self, rt: &R) -> Result<Report, StepFault>
         ensures report { IfOk result (λ report. (switch : SwitchView Carried) × IsReport switch self.old report.handled.items) }
         ensures faults { IfErr result (λ fault. (fault ≡ Stopped) ⊎ (fault ≡ Memory)) }

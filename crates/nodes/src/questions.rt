@@ -1,4 +1,5 @@
-//! The calls of a desk that ask for the state of a node, for the history, or any question about a cell.
+//! The calls of a desk that ask for the state of a node, for the history, or any question about a
+//! cell.
 ghost use Rattle.std.specs.Prelude.{◌≡◌, ◌≤◌, ◌<◌, ◌⊎◌, Err, IfErr, IfOk, IsOkUnless};
 ghost use Rattle.std.specs.Fn.{FnOnceReturnsAt};
 ghost use Rattle.net.specs.declared.fault.StepFault.TheVariants.{Apart, Memory, NoNode};
@@ -30,7 +31,8 @@ impl<G: Gate, K: Keep<Carried>> Desk<G, K> {
     /// meanwhile, so the node waits: a question should be short, and leave printing until after the
     /// call.
     ///
-    /// Errors: `NoNode`; else `Apart` if the cell is not that of its node. Cost: that of the question.
+    /// Errors: `NoNode`; else `Apart` if the cell is not that of its node. Cost: that of the
+    /// question.
     pub fn ask<R: Wait, T, F: FnOnce(&NodeCell) -> T + Drop>(
         &self,
         rt: &R,
@@ -47,8 +49,8 @@ impl<G: Gate, K: Keep<Carried>> Desk<G, K> {
         ask_on(&shared_cell.cell, k, question)
     }
 
-    /// Returns the state of node `k` and of its cell. The cell and the switch are locked meanwhile. It does not
-    /// allocate.
+    /// Returns the state of node `k` and of its cell. The cell and the switch are locked meanwhile.
+    /// It does not allocate.
     ///
     /// Errors: `NoNode`; else `Apart` if the cell is not that of its node.
     pub fn node_status<R: Wait>(&self, rt: &R, k: u8) -> Result<NodeStatus, StepFault>

@@ -7,8 +7,8 @@ use cluster::Switch;
 use synod::Keep;
 use world::Carried;
 
-/// The number of events of each node (`handled`), and their sum (`events`). The events of a node are its offers, ballots and
-/// restarts, and the deliveries of packets addressed to it.
+/// The number of events of each node (`handled`), and their sum (`events`). The events of a node
+/// are its offers, ballots and restarts, and the deliveries of packets addressed to it.
 #[derive(Drop)]
 pub struct Report {
     pub events: u64,

@@ -1,10 +1,12 @@
-//! The cell under a node's lock, and the time at which an entry is tried again after a failed allocation.
+//! The cell under a node's lock, and the time at which an entry is tried again after a failed
+//! allocation.
 ghost use Rattle.std.specs.Prelude.{◌≡◌};
 
 use cluster::NodeCell;
 
-/// A node's cell. An entry for which an allocation failed is tried again at the next packet, and then each time that the number
-/// of packets since the failure has doubled, since each try costs as much as the whole entry.
+/// A node's cell. An entry for which an allocation failed is tried again at the next packet, and
+/// then each time that the number of packets since the failure has doubled, since each try costs as
+/// much as the whole entry.
 #[derive(Drop)]
 pub(crate) struct SharedCell {
     pub cell: NodeCell,
@@ -26,8 +28,8 @@ impl SharedCell {
         }
     }
 
-    /// Counts `packet_count` more packets if the next entry is postponed, and returns whether it is to
-    /// be tried.
+    /// Counts `packet_count` more packets if the next entry is postponed, and returns whether it is
+    /// to be tried.
     pub fn is_due_after(&mut self, packet_count: usize) -> bool
         ensures { self.new.cell ≡ self.old.cell }
     {
@@ -39,7 +41,8 @@ impl SharedCell {
         self.packets_since_failure >= self.next_try
     }
 
-    /// Postpones the next entry, for which an allocation failed, until twice as many packets have arrived.
+    /// Postpones the next entry, for which an allocation failed, until twice as many packets have
+    /// arrived.
     pub fn postpone(&mut self)
         ensures { self.new.cell ≡ self.old.cell }
     {

@@ -17,9 +17,10 @@ use synod::Keep;
 use verify_pool::{Gate, LightGate, Place, PoolSize};
 use world::Carried;
 
-/// The state that the node threads and desks of a cluster share, under locks. A node's lock is taken before the switch's, and
-/// that of a lower node number before that of a higher one; the senders' lock is never taken while the switch's is held. The
-/// lock of heavy proofs is taken under one node's lock, and none under it.
+/// The state that the node threads and desks of a cluster share, under locks. A node's lock is
+/// taken before the switch's, and that of a lower node number before that of a higher one; the
+/// senders' lock is never taken while the switch's is held. The lock of heavy proofs is taken under
+/// one node's lock, and none under it.
 #[derive(Drop)]
 pub(crate) struct SharedNodes<G: Gate, K: Keep<Carried>> {
     pub alloc: Global,
@@ -29,8 +30,8 @@ pub(crate) struct SharedNodes<G: Gate, K: Keep<Carried>> {
     pub cells: Vec<Mutex<SharedCell>>,
     /// The sending ends of the nodes' channels; none once the cluster is stopped.
     pub senders: Mutex<Vec<Sender<u64>>>,
-    /// Held by the node that applies an entry with a heavy proof, which needs more memory than a worker has: one node at a time
-    /// has that memory.
+    /// Held by the node that applies an entry with a heavy proof, which needs more memory than a
+    /// worker has: one node at a time has that memory.
     pub heavy_proofs: Mutex<()>,
 }
 
@@ -52,7 +53,8 @@ impl<G: Gate, K: Keep<Carried>> SharedNodes<G, K> {
         }
     }
 
-    /// Sends each hint into the channel of its node. A hint that the channel refuses is a lost packet.
+    /// Sends each hint into the channel of its node. A hint that the channel refuses is a lost
+    /// packet.
     pub fn send<R: Wait>(&self, rt: &R, hints: &[Hint]) {
         let senders = self.senders.lock(rt);
         for hint in hints {
@@ -86,7 +88,8 @@ impl<G: Gate, K: Keep<Carried>> SharedNodes<G, K> {
         }
     }
 
-    /// Applies the entries taken over, and passes the gate before each. Postpones an entry for which an allocation fails.
+    /// Applies the entries taken over, and passes the gate before each. Postpones an entry for
+    /// which an allocation fails.
     fn apply_all<R: Threads + Wait + Sync>(&self, rt: &R, shared_cell: &mut SharedCell, k: u8)
     where
         G: Sync,
@@ -105,8 +108,9 @@ impl<G: Gate, K: Keep<Carried>> SharedNodes<G, K> {
         }
     }
 
-    /// Applies the next entry that was taken over, and returns whether that succeeded. An entry that fails while heavy proofs
-    /// are kept out is tried once more, under the lock of heavy proofs.
+    /// Applies the next entry that was taken over, and returns whether that succeeded. An entry
+    /// that fails while heavy proofs are kept out is tried once more, under the lock of heavy
+    /// proofs.
     fn apply_next<R: Threads + Wait + Sync>(&self, rt: &R, shared_cell: &mut SharedCell) -> bool
     where
         G: Sync,
@@ -141,8 +145,8 @@ impl<G: Gate, K: Keep<Carried>> SharedNodes<G, K> {
     }
 }
 
-/// Returns whether the cell is node `k`'s and belongs to the switch. No clause relates values under two locks, so this is
-/// tested while both are held.
+/// Returns whether the cell is node `k`'s and belongs to the switch. No clause relates values under
+/// two locks, so this is tested while both are held.
 fn is_cell_of<K: Keep<Carried>>(cell: &NodeCell, k: u8, switch: &Switch<Carried, K>) -> bool
     ensures { IsTrue result → (cell.now.node ≡ k) × Belongs cell.now switch.now }
 {

@@ -73,7 +73,8 @@ impl<K: Keep<Carried>> SharedSwitch<K> {
         self.hints(alloc, before, self.posted)
     }
 
-    /// Returns the hints of the packets `from..to`. If an allocation fails, that hint and all after it are lost.
+    /// Returns the hints of the packets `from..to`. If an allocation fails, that hint and all after
+    /// it are lost.
     fn hints(&self, alloc: Global, from: u64, to: u64) -> Vec<Hint> {
         let mut hints = Vec::new(alloc);
         for number in from..to {

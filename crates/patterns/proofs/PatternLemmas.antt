@@ -1,4 +1,5 @@
--- The parts match a contiguous run of the symbols of an expression exactly if some tail of it begins with what they match.
+-- The parts match a contiguous run of the symbols of an expression exactly if some tail of it
+-- begins with what they match.
 use Rattle.patterns.proofs.Prelude.{◌≡◌, ◌↔◌, ℕ, ◌+◌, ◌≤◌, IsTrue, Some, None, Bool, true, false, List, [], ◌∷◌, ◌++◌, length, take, drop, map, refl, ap, sym, ◌∙◌, subst, arith, append_assoc, length-append, drop-append_seam, and_parts, and_from, both_ways, take-append-drop, drop-map, Name, name_eq, name_same, same_name, Part, Symbol, AnySymbol, AnySequence, MatchesExactly, Matches, part_view, segment_len, matches_prefix, IsFirstMatch}
 use Rattle.patterns.proofs.SegmentLemmas.{Begins, IsSomewhere, GoesOn, none_found, all_found, goes_past}
 
@@ -94,7 +95,8 @@ module _ {R : Type 0} (f : R → Name) (p : List Part) (symbols : List R) (from 
         let here = len_here in
         (λ _. match_of p (map f symbols) (all_found p (map f symbols) from at goes index segment same first_is (omega (arith, all, left_len, here))), λ _. refl)
 
-    -- if the segment matches and is not the last one, a `$*` follows it, and the search continues after both
+    -- if the segment matches and is not the last one, a `$*` follows it, and the search continues
+    -- after both
     pub next_segment : (len ≡ length left → ⊥) → len ≤ length left
         → GoesOn p (drop (from + (len + 1)) p) (map f symbols) (drop (at + (index + len)) (map f symbols))
     next_segment more within =

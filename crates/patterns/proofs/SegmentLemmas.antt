@@ -90,11 +90,13 @@ module _ (p : List Part) (e : List Name) where
         omega arith
 
     module _ (next : List Part) (others : drop (segment_len p) p ≡ AnySequence ∷ next) where
-      -- if symbols begin with what the rest of the pattern matches, the parts after its `$*` match somewhere in them
+      -- if symbols begin with what the rest of the pattern matches, the parts after its `$*` match
+      -- somewhere in them
       pub rest_begins : (r : List Name) → Begins (drop (segment_len p) p) r → IsSomewhere next r
       rest_begins r b = subst (λ o. Begins o r) others b
 
-      -- if the pattern matches somewhere, the parts after the `$*` match after the first match of the first segment ..
+      -- if the pattern matches somewhere, the parts after the `$*` match after the first match of
+      -- the first segment ..
       pub goes_on : IsSomewhere p e → IsSomewhere next (drop (i + segment_len p) e)
       goes_on (k, within, begins) =
           let cut : Cut p (segment_len p) (drop k e) = cut_of p (drop k e) begins in
@@ -126,7 +128,8 @@ module _ (p : List Part) (e : List Name) where
 
 -- ---- the loops
 
--- the pattern matches somewhere exactly if the rest of it matches somewhere in the rest of the symbols
+-- the pattern matches somewhere exactly if the rest of it matches somewhere in the rest of the
+-- symbols
 pub record GoesOn (p left : List Part) (e rest : List Name) : Type 0 where
   pub on : IsSomewhere p e → IsSomewhere left rest
   pub back : IsSomewhere left rest → IsSomewhere p e
@@ -229,7 +232,8 @@ segment_all p i past is =
 
 module _ {R : Type 0} (f : R → Name) (p : List Part) (symbols : List R) (i : ℕ) where
   module _ (q : Part) (r : R) (parts : i < length p) (within : i < length symbols) where
-    -- the match from an index on is the match of the part and the symbol there, and of those after them
+    -- the match from an index on is the match of the part and the symbol there, and of those after
+    -- them
     step : matches_prefix (drop i p) (drop i (map f symbols)) ≡ (matches_symbol (get_or p i q) (f (get_or symbols i r)) && matches_prefix (drop (i + 1) p) (drop (i + 1) (map f symbols)))
     step =
         let count = length-map symbols f in

@@ -1,6 +1,8 @@
 -- Patterns of symbols, and the expressions that they match.
--- Source: this project's form of the patterns of `search` in the program metamath; no symbol has a `$`.
--- The code goes once from left to right; here an expression is split into the symbols that each part matches.
+-- Source: this project's form of the patterns of `search` in the program metamath; no symbol has a
+-- `$`.
+-- The code goes once from left to right; here an expression is split into the symbols that each
+-- part matches.
 use Rattle.std.specs.Prelude.{◌≡◌, List, [], ◌∷◌, ◌++◌, codes, if◌then◌else◌}
 use Rattle.mm_lex.specs.Alphabet.{Name, name_eq}
 

@@ -19,7 +19,8 @@ is_unknown_word w = has_byte 36 w && not (name_eq w (codes "$?") || name_eq w (c
 abbrev pub ArePattern : List Name → Type 0
 ArePattern ws = (find is_unknown_word ws ≡ None) × IsTrue (list_any is_symbol_word ws)
 
--- the error: the first unknown word if there is one, else that no word is a symbol; `Memory` only if the words are a pattern
+-- the error: the first unknown word if there is one, else that no word is a symbol; `Memory` only
+-- if the words are a pattern
 abbrev pub IsParseError : List Name → PatternFault → Type 0
 IsParseError ws (UnknownWord w) = find is_unknown_word ws ≡ Some w.now
 IsParseError ws NoSymbol = (find is_unknown_word ws ≡ None) × IsFalse (list_any is_symbol_word ws)

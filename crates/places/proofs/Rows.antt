@@ -1,7 +1,8 @@
 -- Descriptions on a small text.
 use Rattle.places.proofs.Words.{[], ◌∷◌, Some, None, codes, refl, Const, Open, Close, AreDescriptions}
 
--- `$( a $) $( b c $) $c x $( d $) $. ${ $( e $) $}`: the last comment before the first token, and no comment within a statement
+-- `$( a $) $( b c $) $c x $( d $) $. ${ $( e $) $}`: the last comment before the first token, and
+-- no comment within a statement
 last_comment : AreDescriptions (codes "$( a $) $( b c $) $c x $( d $) $. ${ $( e $) $}") (Const (codes "x" ∷ []) ∷ Open ∷ Close ∷ [])
     (Some (record { start = 10; end = 15 }) ∷ None ∷ Some (record { start = 39; end = 42 }) ∷ [])
 last_comment = (

@@ -81,7 +81,8 @@ begins_with at false [] = refl
 begins_with at false (s ∷ spans) = refl
 
 module _ (text : List ℕ) (walk : WalkState) (skips : CanSkip walk) where
-  -- a visible byte in front that is not `$` is passed over, with the run that it lengthens if that run did not begin with `$`
+  -- a visible byte in front that is not `$` is passed over, with the run that it lengthens if that
+  -- run did not begin with `$`
   pass_byte : (at : ℕ) (t : Bool) (spans : List Span) → (get_or text at 0 ≡ 36 → ⊥) → (t ≡ false → BeginsAt (at + 1) spans) → (get_or text (at + 1) 0 ≡ 36 → t ≡ false → ⊥)
       → walk_over text walk (with_byte at t spans) ≡ walk_over text walk spans
   pass_byte at true spans differs first next = pass_run text walk skips (record { start = at; end = at + 1 }) spans differs

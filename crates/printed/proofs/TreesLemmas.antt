@@ -2,7 +2,8 @@
 use Rattle.printed.proofs.Words.{◌≡◌, ℕ, ◌+◌, List, [], ◌++◌, map, Vec, Global, sym, ◌∙◌, ap, append_assoc, Database, Tree, Apply, derivation_of, from_list, derivation-apply, tree_node_line, tree_lines, trees_lines}
 use Rattle.std.proofs.lemmas.List.{append-nil}
 
--- the lines of a derivation are written when its node's line is, and the lines of all children after it
+-- the lines of a derivation are written when its node's line is, and the lines of all children
+-- after it
 pub tree_lines_whole : (S : Database) (depth below at : ℕ) (kids : Vec Tree Global) (tree : Tree) (all left : List Tree) (old node new : List ℕ)
     → tree ≡ Apply at kids → all ≡ kids.items → left ≡ [] → below ≡ depth + 1 → node ≡ old ++ tree_node_line S depth at
     → new ++ trees_lines S below (from_list (map derivation_of left)) ≡ node ++ trees_lines S below (from_list (map derivation_of all))

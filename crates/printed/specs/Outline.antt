@@ -1,6 +1,9 @@
--- The outline of a database: a line for each statement and one for the rules, or only one line for a text that cannot be parsed.
--- Source: this project's own form; a statement's line is its export form, the rules are those of Metamath, chapter 4.
--- The code appends one line after another, and finds a broken rule by a scope; here the lines are joined.
+-- The outline of a database: a line for each statement and one for the rules, or only one line for
+-- a text that cannot be parsed.
+-- Source: this project's own form; a statement's line is its export form, the rules are those of
+-- Metamath, chapter 4.
+-- The code appends one line after another, and finds a broken rule by a scope; here the lines are
+-- joined.
 use Rattle.std.specs.Prelude.{◌≡◌, ℕ, ◌+◌, List, [], ◌∷◌, ◌++◌, length, codes, decimal, Option, Some, None}
 use Rattle.mm_lex.specs.TextFaults.{IsFirstBadByte, IsCommentFault}
 use Rattle.mm_read.specs.declared.stmt.Stmt.{Stmt}
@@ -19,7 +22,8 @@ abbrev pub proof_of : Stmt → Expr
 proof_of (Prove label expr proof) = proof
 proof_of s = []
 
--- the line of a statement: its number, a space, and its export form with the number of proof tokens in place of the proof
+-- the line of a statement: its number, a space, and its export form with the number of proof tokens
+-- in place of the proof
 abbrev pub outline_line : ℕ → Stmt → List ℕ
 outline_line number s = decimal number ++ codes " " ++ line_of (with_proof s (decimal (length (proof_of s)) ∷ []))
 
@@ -28,7 +32,8 @@ abbrev pub outline_lines : ℕ → Database → List ℕ
 outline_lines number [] = []
 outline_lines number (s ∷ S) = outline_line number s ++ outline_lines (number + 1) S
 
--- the last line: `good`, or the first statement that breaks a rule and the least rule that it breaks
+-- the last line: `good`, or the first statement that breaks a rule and the least rule that it
+-- breaks
 abbrev pub rules_line : Option (ℕ × Rule) → List ℕ
 rules_line None = codes "good\n"
 rules_line (Some broken) = verdict_text (Refused (BrokenRule broken.0 broken.1)) ++ codes "\n"

@@ -1,5 +1,6 @@
 -- The texts that the program prints of packets, verdicts and libraries.
--- Source: this project's own forms; a ballot (Lamport, Paxos Made Simple, 2.2) is written as its round and its node, by which ballots are compared in this order.
+-- Source: this project's own forms; a ballot (Lamport, Paxos Made Simple, 2.2) is written as its
+-- round and its node, by which ballots are compared in this order.
 -- The code appends each text to the answer.
 use Rattle.std.specs.Prelude.{ℕ, ◌==◌, List, [], ◌++◌, length, codes, decimal, flat_map, Option, Some, None, if◌then◌else◌}
 use Rattle.mm_read.specs.Statements.{Database}

@@ -9,11 +9,11 @@
 //! `named_text`; `databases` (a database that is read and checked), `answers` (the answers of the
 //! commands that ask about a library), `proofs` (the steps of a proof), `searches` (searches for
 //! assertions), `shown` (the answers to `show`: statements as blocks of lines), `pages` (a site),
-//! `unproved_proofs` (questions that are answered even if some `$p` are not proved, among them `check
-//! --all`, which checks every `$p` by itself), `assumed` (each `$p` that is not proved taken as a
-//! `$a`), `refused_texts` and `refused_questions` (why there is no answer); `scripts` (the lines of
-//! a script, answered one by one), `node_answers` (about the library of a node), `why` (why a node
-//! refused an entry), `play`, `play_picture` (the picture of a run); `served_weather`,
+//! `unproved_proofs` (questions that are answered even if some `$p` are not proved, among them
+//! `check --all`, which checks every `$p` by itself), `assumed` (each `$p` that is not proved taken
+//! as a `$a`), `refused_texts` and `refused_questions` (why there is no answer); `scripts` (the
+//! lines of a script, answered one by one), `node_answers` (about the library of a node), `why`
+//! (why a node refused an entry), `play`, `play_picture` (the picture of a run); `served_weather`,
 //! `served_nodes`, `desk_answers`, `session` (the lines of a script of `serve`, or of
 //! `serve --live`) and `serve`.
 #![tactic(auto)]

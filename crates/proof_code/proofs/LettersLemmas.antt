@@ -55,7 +55,8 @@ after_letter letter words = map (λ word. letter ∷ word) words
 pub is_leading-true : (c : ℕ) → 85 ≤ c → c ≤ 89 → is_leading c ≡ true
 is_leading-true c low high = grind (arith, nat_tests)
 
--- words of one size after each of some letters in turn give a row, if the words give a row of `size` numbers after any digits
+-- words of one size after each of some letters in turn give a row, if the words give a row of
+-- `size` numbers after any digits
 numbers_of_first : (words : List Name) (size below d e a k : ℕ) → e ≡ 5 * d + (a - 84) → 85 ≤ a → a + k ≤ 90 → ((e : ℕ) → map (number_after e) words ≡ row (suc (e * size + below)) size)
     → map (number_after d) (flat_map (λ letter. after_letter letter words) (range_with_len a k)) ≡ row (suc (e * size + below)) (k * size)
 numbers_of_first words size below d e a zero is low high listed_count = let none : 0 ≡ 0 * size = omega arith in ap (row (suc (e * size + below))) none

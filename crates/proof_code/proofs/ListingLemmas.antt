@@ -1,4 +1,5 @@
--- The labels counted are those that the header lists, whether they are counted byte by byte or sixteen bytes at a time.
+-- The labels counted are those that the header lists, whether they are counted byte by byte or
+-- sixteen bytes at a time.
 use Rattle.proof_code.proofs.Words.{◌≡◌, ℕ, zero, suc, ◌+◌, ◌-◌, ◌<◌, ◌≤◌, Bool, true, false, cond, ◌==◌, List, [], ◌∷◌, ◌++◌, length, drop, slice_index_or, Option, Some, None, refl, list_all, option_map, sym, ◌∙◌, ap, arith, true≢false, inl, inr, append-nil, drop_more, same_Some, bytes_eq-Decides, and_parts, cases_Bool, eqb-true, false_from_ne_true, and-false, Name, name_eq, is_visible, is_label, is_label_byte, spaced, is_word, class_of, is_label_byte_or_space, are_label_bytes_or_spaces, count_by, take, take-append-drop, drop-drop, get_or-drop, letters_after_parenthesis, more_labels, with_no_labels, listed_count, ListAndRest, with_label, list_and_rest, right_parenthesis, get_or, length-drop, is_count_by}
 use Rattle.proof_code.proofs.TextLemmas.{not_space}
 

@@ -1,4 +1,5 @@
--- Letters that are read give the numbers of one row of words and marks, and the letters of each row are read.
+-- Letters that are read give the numbers of one row of words and marks, and the letters of each row
+-- are read.
 use Rattle.proof_code.proofs.Words.{◌≡◌, ℕ, zero, suc, ◌+◌, ◌-◌, ◌*◌, ◌<◌, ◌≤◌, false, true, cond, ◌&&◌, ◌==◌, nat_lt, nat_le, List, [], ◌∷◌, ◌++◌, flat_map, length, Option, Some, None, refl, get_or, option_map, sym, ◌∙◌, ap, arith, append_assoc, none-some, same_Some, slice_get-get_or, slice_get_within, get_or_from_slice_get, nat_tests, cond_both, and_parts, eqb-true, leb-true, ltb-true, ltb-false, lt-ltb, le-ltb, append-nil, Name, is_empty, Item, Cite, Recall, Mark, IsNumber, is_leading, is_last, number_after, number_of, item_of, items_of, with_number, numbers_from, mark_letter, AreItems}
 use Rattle.proof_code.proofs.LettersLemmas.{number_of-placed, placed-number_of, first_bounds, last_bounds}
 

@@ -1,4 +1,5 @@
--- The names that the proofs of this crate use, and lemmas of std and of lower crates, exported again from one place.
+-- The names that the proofs of this crate use, and lemmas of std and of lower crates, exported
+-- again from one place.
 pub use Rattle.mm_lex.proofs.NameLemmas.{tried_first}
 pub use Rattle.mm_lex.proofs.WordsLemmas.{word-visible}
 pub use Rattle.mm_lex.specs.Alphabet.{Name, has_byte, has_name, is_empty, is_label, is_label_byte, is_visible, name_eq}

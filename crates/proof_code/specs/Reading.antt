@@ -3,15 +3,16 @@
 -- Source: Metamath, appendix B.
 -- The code reads without the mandatory labels: the caller tests whether a listed label is one of
 -- them.
-use Rattle.std.specs.Prelude.{◌≡◌, ℕ, ◌+◌, ◌-◌, ◌*◌, ◌^◌, ◌==◌, ◌||◌, Bool, IsTrue, IsFalse, if◌then◌else◌, List, [], ◌∷◌, ◌++◌, length, Option}
+use Rattle.std.specs.Prelude.{◌≡◌, ℕ, ◌+◌, ◌-◌, ◌*◌, ◌^◌, ◌==◌, ◌||◌, Bool, IsTrue, IsFalse, if◌then◌else◌, List, [], ◌∷◌, ◌++◌, length, Option, Result, OnOk}
 use Rattle.std.specs.List.{list_any}
 use Rattle.std.specs.Option.{option_map}
 use Rattle.mm_lex.specs.Alphabet.{Name, has_name}
 use Rattle.proof_code.specs.declared.item.Item.{Item}
+use Rattle.proof_code.specs.declared.reader.Heading.{Heading}
 use Rattle.proof_code.specs.ItemNumbers.{items_of}
 use Rattle.proof_code.specs.Letters.{is_leading, is_last}
 use Rattle.proof_code.specs.Text.{letters_of, numbers_from}
-use Rattle.proof_code.specs.Writes.{right_parenthesis, WritesCompressed}
+use Rattle.proof_code.specs.Writes.{left_parenthesis, right_parenthesis, WritesCompressed}
 
 -- these numbers before those of the rest
 abbrev pub before_rest : List ℕ → Option (List ℕ) → Option (List ℕ)
@@ -67,3 +68,9 @@ pub record IsHeadingWithNumbers (tokens : List Name) (mandatory : ℕ) (words : 
   pub many : length listed ≡ count
   pub none_shared : (labels : List Name) → length labels ≡ mandatory → IsFalse (share_label labels listed) → WritesCompressed tokens labels (items_of (labels ++ listed) numbers)
   pub shared : (labels : List Name) → IsTrue (share_label labels listed) → (items : List Item) → ¬ WritesCompressed tokens labels items
+
+-- the tokens are `(` and the words of the heading, which has the numbers of some items; these are
+-- kept if the outcome is `Ok`
+abbrev pub IsHeadingRead : {T E : Type 0} → List Name → ℕ → Heading → Result T E → List ℕ → Type 0
+IsHeadingRead tokens mandatory heading outcome kept =
+    (tokens ≡ left_parenthesis ∷ heading.words) × (numbers : List ℕ) × IsHeadingWithNumbers tokens mandatory heading.words heading.count numbers × OnOk outcome (numbers ≡ kept)

@@ -1,10 +1,10 @@
 //! Reads compressed proofs into a buffer that is reused.
-ghost use Rattle.std.specs.Prelude.{◌≡◌, ℕ, ◌+◌, ◌*◌, ◌^◌, ◌<◌, ◌≤◌, [], ◌∷◌, List, length, take, IsTrue, IfOk, IfSome, MatchOption, OnOk, OnErr, Some, None};
+ghost use Rattle.std.specs.Prelude.{◌≡◌, ℕ, ◌+◌, ◌*◌, ◌^◌, ◌<◌, ◌≤◌, [], List, length, take, IsTrue, IfOk, IfSome, MatchOption, OnOk, OnErr, Some, None};
 ghost use Rattle.mm_lex.specs.Alphabet.{Name};
 ghost use Rattle.proof_code.specs.declared.item.Item.{Item};
 ghost use Rattle.proof_code.specs.Text.{letters_of, numbers_from};
-ghost use Rattle.proof_code.specs.Writes.{left_parenthesis, is_compressed, WritesCompressed};
-ghost use Rattle.proof_code.specs.Reading.{IsHeadingWithNumbers};
+ghost use Rattle.proof_code.specs.Writes.{is_compressed, WritesCompressed};
+ghost use Rattle.proof_code.specs.Reading.{IsHeadingRead, IsHeadingWithNumbers};
 
 use crate::letter_numbers::{check_letters, starts_with_mark, write_numbers};
 use crate::listing::count_listed;
@@ -105,7 +105,7 @@ impl Reader {
         requires few { mandatory ≤ 2 ^ 62 }
         ensures read { MatchOption result
             ((labels : List Name) → length labels ≡ mandatory → (items : List Item) → ¬ WritesCompressed tokens.now labels items)
-            (λ found. (tokens.now ≡ left_parenthesis ∷ found.0.words) × (numbers : List ℕ) × IsHeadingWithNumbers tokens.now mandatory found.0.words found.0.count numbers × OnOk found.1 (numbers ≡ self.new)) }
+            (λ found. IsHeadingRead tokens.now mandatory found.0 found.1 self.new) }
         ensures same { IfSome result (λ found. OnErr found.1 (self.new ≡ self.old)) }
     {
         let mut words = tokens.iter();

@@ -14,7 +14,8 @@ row_start_with_kind kind = codes "<tr><td>" ++ kind ++ codes "<td>"
 abbrev pub expr_cell : Expr → List ℕ
 expr_cell expr = codes "<td>" ++ html_text (spaced expr) ++ codes "\n"
 
--- the row of an assertion: kind, label as a link to the page of the assertion at this position, expression
+-- the row of an assertion: kind, label as a link to the page of the assertion at this position,
+-- expression
 abbrev pub assertion_row : List ℕ → Name → Expr → ℕ → List ℕ
 assertion_row kind label expr position = row_start_with_kind kind ++ page_link label position ++ expr_cell expr
 

@@ -23,7 +23,8 @@ symbol_text names symbol = codes " " ++ name_at names symbol
 abbrev pub expr_text : List Name → List ℕ → List ℕ
 expr_text names expr = flat_map (symbol_text names) expr
 
--- its number, the numbers of the steps that it takes, the label of the statement that it cites, its expression
+-- its number, the numbers of the steps that it takes, the label of the statement that it cites, its
+-- expression
 abbrev pub step_line : Database → List Name → ℕ → Row → List ℕ
 step_line S names index row =
     number_text index ++ codes " " ++ taken_text row.step.taken ++ codes " " ++ label_or_empty (stmt_at S row.step.position) ++ expr_text names row.expr ++ codes "\n"

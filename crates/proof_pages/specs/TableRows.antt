@@ -1,5 +1,6 @@
 -- Rows of tables in a page, and lists of labels.
--- Source: HTML, tables, lists and links, and which end tags may be omitted; this project's own form.
+-- Source: HTML, tables, lists and links, and which end tags may be omitted; this project's own
+-- form.
 -- The code adds each part to the end of a buffer.
 use Rattle.std.specs.Prelude.{ℕ, Bool, List, [], ◌∷◌, ◌++◌, codes, flat_map}
 use Rattle.proof_pages.specs.Words.{Name, Database, Row}

@@ -4,7 +4,8 @@
 use Rattle.std.specs.Prelude.{◌≡◌, ℕ, List, ◌++◌, Option}
 use Rattle.std.specs.Io.KnownBytes.{Appends}
 
--- the text is what was written between the old and the new state of the writer, followed by what is still buffered
+-- the text is what was written between the old and the new state of the writer, followed by what is
+-- still buffered
 pub record IsWrittenThenBuffered (old new : Option (List ℕ)) (buffered text : List ℕ) : Type 0 where
   pub written_bytes : List ℕ
   pub appends : Appends old new written_bytes

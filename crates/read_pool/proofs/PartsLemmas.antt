@@ -29,7 +29,8 @@ module _ (text front back : List ℕ) (at : ℕ) (cut : IsCut text at) (begins :
   no_word_joined = white_joins front back (ap is_empty_or_starts_white ends ∙ cut.1)
 
   module _ (first second : Option (Vec Stmt Global)) (one : IfSome first (λ S. Reads front S.items)) (other : IfSome second (λ S. Reads back S.items)) where
-    -- if both parts can be read, the text reads as the statements of the first and then those of the second
+    -- if both parts can be read, the text reads as the statements of the first and then those of
+    -- the second
     both_read : (S : Database) → IsConcatenation first second S → Reads text S
     both_read S are = by first second one other are
       where

@@ -6,20 +6,20 @@ ghost use Rattle.read_pool.specs.Cut.{IsCut};
 /// The least average length of the parts of a text, and also the length that is searched for a cut,
 /// both in bytes. A single part may be shorter, even empty, since a cut is where a statement seems
 /// to end.
-pub(crate) const MIN_PART_BYTES: usize = 1 << 20;
+pub(crate) const MIN_AVERAGE_PART_BYTES: usize = 1 << 20;
 
 /// Returns a cut at or after `near`: an offset that no word of the text crosses.
 ///
 /// The cut is the end of the first `$.` that a white byte follows and that seems to be outside
 /// comments: no `$)` follows it before the next `$(` or the end of the bytes searched. If there is
-/// no such `$.`, the cut is the end of the text. Cost: at most `MIN_PART_BYTES`.
+/// no such `$.`, the cut is the end of the text. Cost: at most `MIN_AVERAGE_PART_BYTES`.
 pub(crate) fn cut_near(text: &[u8], near: usize) -> usize
     ensures { IsCut text.now result }
 {
     let end = text
         .len()
         .saturating_sub(2)
-        .min(near.saturating_add(MIN_PART_BYTES));
+        .min(near.saturating_add(MIN_AVERAGE_PART_BYTES));
     let mut found = None;
     for at in near..end {
         match &text[at..at + 2] {

@@ -7,7 +7,7 @@ ghost use Rattle.mm_read.specs.Statements.{Database};
 ghost use Rattle.mm_read.specs.Reads.{Reads, HasShapeFault, IsReadFault};
 ghost use Rattle.read_pool.specs.Concatenation.{IsConcatenation};
 
-use crate::cut::{MIN_PART_BYTES, cut_near};
+use crate::cut::{MIN_AVERAGE_PART_BYTES, cut_near};
 use mm_lex::LexFault;
 use mm_read::{ReadFault, Stmt, read};
 use std::alloc::Global;
@@ -45,7 +45,7 @@ pub fn read_in_parts<R: Threads + Sync>(
     ensures shape { (token : ℕ) → HasShapeFault text.now token
         → IsErrAnd result (λ fault. (fault ≡ ReadFault.Shape token) ⊎ (fault ≡ ReadFault.Memory)) }
 {
-    let parts = workers.min(text.len() / MIN_PART_BYTES);
+    let parts = workers.min(text.len() / MIN_AVERAGE_PART_BYTES);
     if parts > 1 {
         if let Some(statements) = read_parts(rt, alloc, text, parts) {
             return Ok(statements);

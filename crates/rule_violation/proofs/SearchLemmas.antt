@@ -1,7 +1,8 @@
 -- Active statements, searched from the end backwards, and the places of names in a list.
 use Rattle.rule_violation.proofs.Words.{◌≡◌, ℕ, zero, suc, ◌+◌, ◌-◌, ◌<◌, ◌≤◌, Bool, true, false, not, ◌&&◌, ◌||◌, cond, List, [], ◌∷◌, length, drop, get_or, refl, sym, ◌∙◌, ap, arith, Some, slice_get, add-one, nat_le, Option, None, MatchOption, is_some, or-true, list_any, drop-cons, Stmt, Open, Close, Const, Var, Disj, Float, Ess, Axiom, Prove, Database, stays_open, active_from, ◌==◌, and_parts, slice_get_read, any_passes_from_place, stmt_at, closed_blocks_from, closed_blocks, PassesAt, IsActiveAt}
 
--- with `d` blocks open before them, statements close only open blocks exactly if `closed_blocks` counts at most `d`
+-- with `d` blocks open before them, statements close only open blocks exactly if `closed_blocks`
+-- counts at most `d`
 pub stays_open-closed : (d : ℕ) (S : Database) → stays_open d S ≡ nat_le (closed_blocks S) d
 stays_open-closed d [] = sym (zero_le d)
   where
@@ -72,7 +73,8 @@ module _ (S : Database) (i h : ℕ) (s : Stmt) (closed_later : ℕ) (t : Stmt �
   pub closed_on : closed_blocks_from s closed_later ≡ closed_blocks (drop i S)
   closed_on = ap (closed_blocks_from s) counts ∙ ap closed_blocks (sym opened)
 
-  -- a statement that passes the test, and after which no block is closed, is an active one that passes
+  -- a statement that passes the test, and after which no block is closed, is an active one that
+  -- passes
   pub found_active : (closed_later == 0 && t s) ≡ true → IsActiveAt S (i + 1) t
   found_active h =
       let parts : ((closed_later == 0) ≡ true) × (t s ≡ true) = and_parts (closed_later == 0) (t s) h in

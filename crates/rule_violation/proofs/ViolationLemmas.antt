@@ -24,7 +24,8 @@ any_or p q r same (x ∷ xs) = or_swap (p x) (list_any p xs) (q x) (list_any q x
 named_is : (S : Database) (x : Name) → (was_symbol S x || was_label S x) ≡ list_any (has_name_in name_role.LabelOrSymbol x) S
 named_is S x = any_or (λ s. has_name x (constants s) || has_name x (variables s)) (λ s. has_label x (label_of s)) (has_name_in name_role.LabelOrSymbol x) (λ s. or_comm (has_label x (label_of s)) (has_name x (constants s) || has_name x (variables s))) S
 
--- .. and it is a constant or was a label exactly if a `$c` declares it or a statement has it as its label
+-- .. and it is a constant or was a label exactly if a `$c` declares it or a statement has it as its
+-- label
 fixed_is : (S : Database) (x : Name) → (is_constant S x || was_label S x) ≡ list_any (has_name_in name_role.LabelOrConstant x) S
 fixed_is S x = any_or (λ s. has_name x (constants s)) (λ s. has_label x (label_of s)) (has_name_in name_role.LabelOrConstant x) (λ s. or_comm (has_label x (label_of s)) (has_name x (constants s))) S
 

@@ -2,7 +2,8 @@
 use Rattle.run_pictures.proofs.Words.{◌≡◌, ℕ, zero, suc, ◌+◌, ◌-◌, ◌<◌, ◌≤◌, List, [], ◌∷◌, ◌++◌, refl, sym, ◌∙◌, ap, arith, append_assoc, append-nil, Step, Mark, Packets, stump, stump_marks_from}
 
 module _ (packets : Packets) (shown : List Step) (row : ℕ) (s : Step) where
-  -- the stumps of the packets from n up to `end` are that of packet n and those of the packets after it
+  -- the stumps of the packets from n up to `end` are that of packet n and those of the packets
+  -- after it
   stump_marks_from-step : (n end count : ℕ) → end - n ≡ count → n < end
       → stump_marks_from packets shown row s n count ≡ stump packets shown row s n ++ stump_marks_from packets shown row s (n + 1) (end - (n + 1))
   stump_marks_from-step n end zero is within = absurd (omega (arith, is, within))

@@ -1,7 +1,8 @@
 -- The marks of a picture: all that it shows of some steps of a run.
--- Source: this project's own form; arrows between lines of processes are Lamport's space-time diagrams
--- (Time, Clocks, and the Ordering of Events, 1978).
--- The code looks packets up in the world; here they are a list. A stump is the beginning of an arrow whose end is not shown.
+-- Source: this project's own form; arrows between lines of processes are Lamport's space-time
+-- diagrams (Time, Clocks, and the Ordering of Events, 1978).
+-- The code looks packets up in the world; here they are a list. A stump is the beginning of an
+-- arrow whose end is not shown.
 use Rattle.std.specs.Prelude.{ℕ, suc, zero, ◌+◌, ◌-◌, ◌==◌, Bool, true, false, ◌&&◌, List, [], ◌∷◌, ◌++◌, Option, Some, None, nat_lt, nat_le, slice_get, drop, take, if◌then◌else◌}
 use Rattle.std.specs.List.{list_any, position_from}
 use Rattle.synod.specs.declared.packet.Packet.{Packet}
@@ -53,7 +54,8 @@ break_marks row s (Apply slot verdict) = []
 abbrev pub learned_marks : ℕ → Step → List Mark
 learned_marks row s = if nat_lt s.log_len_before s.log_len_after then Learned (step_point row s) s.log_len_before s.log_len_after ∷ [] else []
 
--- the arrow of packet n, delivered in a row: from the row of the shown step that posted it, or from no row if that step is not shown
+-- the arrow of packet n, delivered in a row: from the row of the shown step that posted it, or from
+-- no row if that step is not shown
 abbrev pub arrow : List Step → ℕ → ℕ → Option (Packet Carried) → List Mark
 arrow shown row n None = []
 arrow shown row n (Some p) = Arrow n (record { row = position_from (posts n) 0 shown; node = p.from }) (record { row = row; node = p.to }) ∷ []

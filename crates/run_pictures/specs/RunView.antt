@@ -18,7 +18,8 @@ pub record RunView : Type 0 where
 abbrev pub packets_of : WorldView → Packets
 packets_of world = packets_after (world_of carried_size world.history)
 
--- the steps that are events are those of the history, in order; `posted` is the number of packets posted
+-- the steps that are events are those of the history, in order; `posted` is the number of packets
+-- posted
 pub record IsRecorded (world : WorldView) (steps : List Step) (posted : ℕ) : Type 0 where
   pub events : filter is_event steps ≡ steps_of world.history
   pub count : posted ≡ length (packets_of world)

@@ -1,7 +1,8 @@
 -- The steps of the events of a history.
 -- Source: this project's own form; each event is at one node, as in Lamport's space-time diagrams
 -- (Time, Clocks, and the Ordering of Events, 1978).
--- The code records a step as the world takes its event; here the steps are computed from the history.
+-- The code records a step as the world takes its event; here the steps are computed from the
+-- history.
 -- Events and acts have variants of the same names; here those of acts are `Offering` and so on.
 use Rattle.std.specs.Prelude.{ℕ, suc, Bool, true, false, List, [], ◌∷◌, Option, Some, None, Result, length, slice_get}
 use Rattle.synod.specs.declared.node.state.NodeState.{NodeState}

@@ -9,10 +9,10 @@
 //! Terms: each node has a *weight*, and a set of nodes is a quorum if it has more than half of the
 //! total weight. A node *posts* packets when it takes an event; the packets of all nodes are
 //! numbered from 0 in the order of posting. The log of a node has entries in consecutive *slots*,
-//! from 0; `log_len_before` and `log_len_after` count its entries, so that a value learned beyond a gap counts when
-//! the gap is filled. To *apply* an entry is to give it to the library of the node, which returns a
-//! verdict. A *mark* is one thing that a picture shows: a point, a break of a node's line, a note
-//! of slots learned, an arrow or a stump.
+//! from 0; `log_len_before` and `log_len_after` count its entries, so that a value learned beyond a
+//! gap counts when the gap is filled. To *apply* an entry is to give it to the library of the node,
+//! which returns a verdict. A *mark* is one thing that a picture shows: a point, a break of a
+//! node's line, a note of slots learned, an arrow or a stump.
 //!
 //! Reading order: `step` and `mark` (the types), `specs/StepStart`, `specs/Steps`, `specs/Marks`
 //! and `specs/RunView`, `run` (a world whose steps are recorded), `step_range` (the steps that are

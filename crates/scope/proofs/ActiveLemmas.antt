@@ -157,7 +157,8 @@ none-left at (s ∷ S) h = by (stays_open 0 S) h (none-left (at + 1) S)
     by true h rest = rest (or_parts (is_open s) (has_open (active_from (at + 1) S)) h).1
     by false h rest = rest h
 
--- statements that close no block from before still close none with a `$}` after them exactly if one of their own is open
+-- statements that close no block from before still close none with a `$}` after them exactly if one
+-- of their own is open
 closes : (at : ℕ) (S : Database) → stays_open 0 S ≡ true → stays_open 0 (S ++ Close ∷ []) ≡ has_open (active_from at S)
 closes at S h = by (has_open (active_from at S)) refl
   where
@@ -181,7 +182,8 @@ closed_stays S h = by (stays_open 0 (S ++ Close ∷ [])) refl
 pub place : (a n : ℕ) → a + 1 + n ≡ a + suc n
 place a n = omega arith
 
--- one more statement in front: after a `$}` it stays active if it was active and a block after it is open
+-- one more statement in front: after a `$}` it stays active if it was active and a block after it
+-- is open
 close_step : (b o : Bool) (p : ℕ × Stmt) (q : ℕ × Stmt) (r later : List (ℕ × Stmt)) → has_open r ≡ o → later ≡ before_open r ++ q ∷ []
     → cond (cond b o false) (p ∷ later) later ≡ before_open (cond b (p ∷ r) r) ++ q ∷ []
 close_step true true p q r later o e = ap (λ x. p ∷ x) e ∙ ap (λ c. cond c (p ∷ before_open r) [] ++ q ∷ []) (sym o)
@@ -189,7 +191,8 @@ close_step true false p q r later o e =
     e ∙ (ap (λ x. x ++ q ∷ []) (before_open-none r o) ∙ ap (λ c. cond c (p ∷ before_open r) [] ++ q ∷ []) (sym o))
 close_step false o p q r later h e = e
 
--- with a `$}` after them, statements close no block from before exactly if they close none without it and one of theirs is open
+-- with a `$}` after them, statements close no block from before exactly if they close none without
+-- it and one of theirs is open
 closes_all : (at : ℕ) (S : Database) → stays_open 0 (S ++ Close ∷ []) ≡ cond (stays_open 0 S) (has_open (active_from at S)) false
 closes_all at S = by (stays_open 0 S) refl
   where

@@ -50,7 +50,8 @@ no_blocks pre (p ∷ es) h = by (is_open p.1) h (no_blocks (pre ++ p ∷ []) es)
     by true h rest = cc
     by false h rest = rest h
 
--- the last heights are those of the statements in front of the last open block, and the others are those of the earlier blocks
+-- the last heights are those of the statements in front of the last open block, and the others are
+-- those of the earlier blocks
 pub blocks-close : (pre es : List (ℕ × Stmt)) → has_open es ≡ true → blocks_from pre es ≡ blocks_from pre (before_open es) ++ heights_of (pre ++ before_open es) ∷ []
 blocks-close pre [] h = cc
 blocks-close pre (p ∷ es) h = by (has_open es) refl (is_open p.1) refl h (blocks-close (pre ++ p ∷ []) es)

@@ -11,7 +11,8 @@ use Rattle.scope.proofs.LegalLemmas.{legal-constants, legal-variables, legal-lab
 any-append : (p : Stmt → Bool) (S : Database) (s : Stmt) → list_any p (S ++ s ∷ []) ≡ (list_any p S || p s)
 any-append p S s = list_any-append p S (s ∷ []) ∙ ap (λ b. list_any p S || b) (or-false (p s))
 
--- the kind of a name after one more statement, from the name's kind before and what the statement declares
+-- the kind of a name after one more statement, from the name's kind before and what the statement
+-- declares
 tells-step : (S : Database) (s : Stmt) (x : Name) (k k' : Option NameKind) → MatchesKind S x k
     → (is_some_label k || has_label x (label_of s)) ≡ is_some_label k' → (is_some_constant k || has_name x (constants s)) ≡ is_some_constant k'
     → (is_some_variable k || has_name x (variables s)) ≡ is_some_variable k' → MatchesKind (S ++ s ∷ []) x k'

@@ -4,7 +4,8 @@ use Rattle.scope.proofs.ActiveLemmas.{flat_map-taken}
 use Rattle.scope.proofs.BareLemmas.{bare-same}
 use Rattle.scope.proofs.StackFollows.{flat_map-close, frame_statements-more}
 
--- the list after one more statement is the first part of the list before with the statement's entries after it
+-- the list after one more statement is the first part of the list before with the statement's
+-- entries after it
 pub frame_statements-after : (S : Database) (s : Stmt) → take (length (frame_statements_of (S ++ s ∷ []))) (frame_statements_of S ++ as_frame_statement (length S + 1) s) ≡ frame_statements_of (S ++ s ∷ [])
 frame_statements-after S s = by (is_close s) refl
   where

@@ -93,7 +93,8 @@ kind-has (p ∷ names) x = by (name_eq x p.0) (kind-has names x)
     by true e = refl
     by false e = e
 
--- the kind of a name after another declaration: the kind that it has, or else the new one if it is declared
+-- the kind of a name after another declaration: the kind that it has, or else the new one if it is
+-- declared
 abbrev pub or_kind : Option NameKind → Bool → NameKind → Option NameKind
 or_kind (Some k) new kind = Some k
 or_kind None true kind = Some kind

@@ -1,4 +1,5 @@
--- Sorted words: equal words are neighbours, so all words differ exactly if each differs from the one before it.
+-- Sorted words: equal words are neighbours, so all words differ exactly if each differs from the
+-- one before it.
 use Rattle.scope.proofs.Words.{◌≡◌, ◌∙◌, refl, sym, ap, subst, arith, Bool, ℕ, ◌+◌, ◌-◌, ◌<◌, ◌≤◌, true, false, not, ◌&&◌, ◌||◌, true≢false, List, [], ◌∷◌, length, get_or, map, Bor, IsPermutation, IsSorted, Ordering, Less, Equal, Greater, is_lt, is_eq, nat_cmp, slice_cmp, on_texts, AllByRecursion, eq_by_cmp, ordering_reverse, IsPermutation-sym, IsDistinct-IsPermutation, IsDistinct-from_sorted, apart_from_distinct, sorted_from_all_adjacent, is_eq-slice_cmp, Name, name_eq, has_name, name_eq-comm, all_different, DifferFromNext, HasEqualNeighbours}
 use Rattle.std.specs.List.{IsDistinct}
 use Rattle.std.specs.List.Sorted.{IsStrictlySortedBy}

@@ -1,4 +1,5 @@
--- The stacks of a scope after a statement that opens or closes no block, after a `${` and after a `$}`.
+-- The stacks of a scope after a statement that opens or closes no block, after a `${` and after a
+-- `$}`.
 use Rattle.scope.proofs.Words.{◌≡◌, ℕ, zero, suc, ◌+◌, ◌≤◌, Bool, true, false, cond, ◌||◌, nat_lt, List, [], ◌∷◌, ◌++◌, length, take, refl, flat_map, ◌∙◌, ap, sym, arith, append_assoc, true≢false, length-append, append-nil, map-append, take-map, same_from_push, flat_map-append, nat_tests, eqb-true, Name, has_name, Stmt, Open, Close, Database, stays_open, active_from, active, is_open, is_close, is_closed, count, variables, typed_by, codes_or_len, code_or_len, HaveCodes, as_frame_statement, frame_statements_of, symbols_of, heights_of, blocks_from, blocks_of, IsRulesState, IsMarked, StackHeights, has_open, before_open, codes_or_len-more, has-more, has_name-append}
 use Rattle.scope.proofs.ActiveLemmas.{active_from-append, active_from-close, stays_open-append, flat_map-taken, from_open, split_open, below-deficit, no_deficit, deficit-close, left_open, count-left_open, count-append, none-left}
 use Rattle.scope.proofs.BlocksLemmas.{blocks_from-append, blocks-close}

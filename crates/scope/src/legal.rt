@@ -1,16 +1,15 @@
 //! Decides the rules G1 to G10, with a function for each shape of statement that can break a rule,
 //! one for `$e`, `$a` and `$p` together.
-ghost use Rattle.std.specs.Prelude.{◌≡◌, ◌==◌, Bool, true, false, not, ◌&&◌, ◌||◌, nat_lt, take, length, Some, None, IfOk, ◌++◌, ◌∷◌, [], is_some, if◌then◌else◌};
+ghost use Rattle.std.specs.Prelude.{◌≡◌, ◌==◌, Bool, true, false, not, ◌&&◌, ◌||◌, nat_lt, take, length, Some, None, IfOk, ◌∷◌, [], is_some};
 ghost use Rattle.std.specs.List.{list_all, list_any};
 ghost use Rattle.mm_lex.specs.Alphabet.{has_name};
-ghost use Rattle.mm_read.specs.Statements.{Expr};
 ghost use Rattle.mm_read.specs.declared.stmt.Stmt.TheVariants as stmt;
 ghost use Rattle.scope.specs.Active.{is_constant, is_variable, was_label, was_symbol};
-ghost use Rattle.scope.specs.Legal.{all_different, are_typed, starts_with_constant, broken_rule};
+ghost use Rattle.scope.specs.Legal.{all_different, broken_rule};
 ghost use Rattle.scope.specs.Stored.SymbolNumbers.{AreRecorded, are_numbers_distinct};
 ghost use Rattle.scope.specs.Stored.Ordered.{DifferFromNext, HasEqualNeighbours};
 ghost use Rattle.scope.specs.Kinds.{IsNumberOf};
-ghost use Rattle.scope.specs.Sorts.{IsSort, is_symbol_sort, broken_by_sorts};
+ghost use Rattle.scope.specs.Sorts.{IsSort, RecordsSymbol, checked_symbols, is_symbol_sort, broken_by_sorts};
 ghost use Rattle.scope.specs.Symbols.{symbols_of, symbols_after, symbols_in};
 
 use crate::numbering::{NameKind, Numbering};
@@ -195,7 +194,7 @@ impl<'a> RuleChecker<'a> {
     /// has an active `$f`; or `None` if a symbol is neither a constant nor an active variable.
     fn check_symbols(&self, expr: &Words, recorded: &mut SymbolNumbers) -> Option<(bool, bool)>
         requires { AreRecorded (symbols_of self.now.statements) [] recorded.old }
-        ensures symbols { result ≡ (if list_all (λ x. is_constant self.now.statements x || is_variable self.now.statements x) expr.now then Some (starts_with_constant self.now.statements expr.now, are_typed self.now.statements expr.now) else None) }
+        ensures symbols { result ≡ checked_symbols self.now.statements expr.now }
         ensures recorded { is_some result ≡ true → AreRecorded (symbols_of self.now.statements) expr.now recorded.new }
     {
         let mut symbols = expr.iter();
@@ -268,7 +267,7 @@ impl<'a> RuleChecker<'a> {
     #[inline(always)]
     fn sort_and_record(&self, name: &[u8], recorded: &mut SymbolNumbers) -> Sort
         ensures sort { IsSort self.now.statements name.now result }
-        ensures recorded { (xs : Expr) → is_symbol_sort result ≡ true → AreRecorded (symbols_of self.now.statements) xs recorded.old → AreRecorded (symbols_of self.now.statements) (xs ++ name.now ∷ []) recorded.new }
+        ensures recorded { RecordsSymbol self.now.statements name.now result recorded.old recorded.new }
     {
         let (sort, number) = self.look_up(name);
         recorded.record_number(number);

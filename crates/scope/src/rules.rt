@@ -1,13 +1,11 @@
 //! The state from which the rules are decided: the stacks of the active variables and of those with
 //! an active `$f`, the number of active `$f`, `$e` and `$d`, and all three sizes at the start of
 //! each open block.
-ghost use Rattle.std.specs.Prelude.{◌≡◌, ◌==◌, ◌++◌, ◌∷◌, [], length, not, nat_lt, take, None, IfOk, IfSome, OnOk, IsTrue};
-ghost use Rattle.std.specs.List.{list_any};
-ghost use Rattle.names.specs.Codes.{codes_or_len};
-ghost use Rattle.scope.specs.Active.{active, active_variables, typed_variables, is_closed, count, is_open, is_close};
+ghost use Rattle.std.specs.Prelude.{◌≡◌, ◌++◌, ◌∷◌, [], length, not, nat_lt, take, None, IfOk, IfSome, OnOk, IsTrue};
+ghost use Rattle.scope.specs.Active.{active, is_closed, count, is_open, is_close};
 ghost use Rattle.scope.specs.Kinds.{IsNumberingOf};
 ghost use Rattle.scope.specs.Legal.{broken_rule, end_rule};
-ghost use Rattle.scope.specs.Sorts.{variable_sort};
+ghost use Rattle.scope.specs.Sorts.{sort_of_variable};
 ghost use Rattle.scope.specs.FrameStatement.{frame_statements_of};
 ghost use Rattle.scope.specs.Stored.SymbolNumbers.{AreRecorded};
 ghost use Rattle.scope.specs.Stored.Stacks.{heights_of};
@@ -192,7 +190,7 @@ impl Rules {
     /// active, and whether it has an active `$f`.
     #[inline(always)]
     pub(crate) fn sort_of_variable(&self, number: u32) -> Sort
-        ensures { result ≡ variable_sort (list_any (λ n. n == number) (codes_or_len (symbols_of self.now.statements) (active_variables self.now.statements))) (list_any (λ n. n == number) (codes_or_len (symbols_of self.now.statements) (typed_variables self.now.statements))) }
+        ensures { result ≡ sort_of_variable self.now.statements number }
     {
         if self.variables.index_of(number).is_none() {
             Sort::Other

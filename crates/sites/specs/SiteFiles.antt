@@ -8,7 +8,8 @@ use Rattle.mm_read.specs.declared.stmt.Stmt.{Stmt}
 use Rattle.mm_read.specs.declared.stmt.Stmt.TheVariants.{Axiom, Prove}
 use Rattle.file_names.specs.FileNames.{file_name}
 
--- files with these names were written, one after another; `writes` relates the folder before and after one write
+-- files with these names were written, one after another; `writes` relates the folder before and
+-- after one write
 abbrev pub WritesNamed : {F : Type 0} → (F → List ℕ → List ℕ → F → Type 0) → F → List (List ℕ) → F → Type 0
 WritesNamed writes old [] new = old ≡ new
 WritesNamed {F} writes old (name ∷ names) new = (bytes : List ℕ) × (next : F) × writes old name bytes next × WritesNamed writes next names new

@@ -1,16 +1,16 @@
 -- The finite map of a list of options: its entries, its front and its top after each change.
-use Rattle.slots.proofs.Words.{◌≡◌, ℕ, zero, suc, ◌+◌, ◌<◌, ◌≤◌, max, List, [], ◌∷◌, ◌++◌, length, get_or, set, drop, replicate, Option, Some, None, refl, ap, ◌∙◌, arith, le_of_suc-le-suc, sym, entry_at, put_at, trim_head, trimmed, entries_to_gap, front_of, top_of}
+use Rattle.slots.proofs.Words.{◌≡◌, ℕ, zero, suc, ◌+◌, ◌<◌, ◌≤◌, max, List, [], ◌∷◌, ◌++◌, length, get_or, set, drop, replicate, Option, Some, None, refl, ap, ◌∙◌, arith, le_of_suc-le-suc, sym, entry_at, put_at, with_head, trimmed, entries_to_gap, front_of, top_of}
 
 -- Putting an entry.
 
-put-trim_head : {T : Type 0} (x : Option T) (ys : List (Option T)) (s : ℕ) (v : T) → trim_head x (put_at ys s v) ≡ put_at (trim_head x ys) (suc s) v
-put-trim_head None [] zero v = refl
-put-trim_head None [] (suc s) v = refl
-put-trim_head None (y ∷ ys) zero v = refl
-put-trim_head None (y ∷ ys) (suc s) v = refl
-put-trim_head (Some x) ys s v = refl
+put-with_head : {T : Type 0} (x : Option T) (ys : List (Option T)) (s : ℕ) (v : T) → with_head x (put_at ys s v) ≡ put_at (with_head x ys) (suc s) v
+put-with_head None [] zero v = refl
+put-with_head None [] (suc s) v = refl
+put-with_head None (y ∷ ys) zero v = refl
+put-with_head None (y ∷ ys) (suc s) v = refl
+put-with_head (Some x) ys s v = refl
 
-put-head : {T : Type 0} (x : Option T) (ys : List (Option T)) (v : T) → Some v ∷ ys ≡ put_at (trim_head x ys) zero v
+put-head : {T : Type 0} (x : Option T) (ys : List (Option T)) (v : T) → Some v ∷ ys ≡ put_at (with_head x ys) zero v
 put-head None [] v = refl
 put-head None (y ∷ ys) v = refl
 put-head (Some x) ys v = refl
@@ -18,7 +18,7 @@ put-head (Some x) ys v = refl
 pub trimmed-set : {T : Type 0} (xs : List (Option T)) (s : ℕ) (v : T) → s < length xs → trimmed (set xs s (Some v)) ≡ put_at (trimmed xs) s v
 trimmed-set [] s v h = absurd (omega arith)
 trimmed-set (x ∷ xs) zero v h = put-head x (trimmed xs) v
-trimmed-set (x ∷ xs) (suc s) v h = ap (trim_head x) (trimmed-set xs s v (le_of_suc-le-suc h)) ∙ put-trim_head x (trimmed xs) s v
+trimmed-set (x ∷ xs) (suc s) v h = ap (with_head x) (trimmed-set xs s v (le_of_suc-le-suc h)) ∙ put-with_head x (trimmed xs) s v
 
 pub top_of-put_at : {T : Type 0} (xs : List (Option T)) (s : ℕ) (v : T) → top_of (put_at xs s v) ≡ max (top_of xs) (s + 1)
 top_of-put_at [] zero v = refl
@@ -26,7 +26,7 @@ top_of-put_at [] (suc s) v = let more = top_of-put_at [] s v in omega (arith, mo
 top_of-put_at (x ∷ xs) zero v = omega arith
 top_of-put_at (x ∷ xs) (suc s) v = let more = top_of-put_at xs s v in omega (arith, more)
 
-top_of-head : {T : Type 0} (x : Option T) (ys : List (Option T)) (n : ℕ) → top_of ys ≤ n → top_of (trim_head x ys) ≤ suc n
+top_of-head : {T : Type 0} (x : Option T) (ys : List (Option T)) (n : ℕ) → top_of ys ≤ n → top_of (with_head x ys) ≤ suc n
 top_of-head None [] n h = omega arith
 top_of-head None (y ∷ ys) n h = omega arith
 top_of-head (Some x) ys n h = omega arith
@@ -37,12 +37,12 @@ top_of-trimmed-le (x ∷ xs) = top_of-head x (trimmed xs) (length xs) (top_of-tr
 
 -- The entry at a slot.
 
-entry-head : {T : Type 0} (x : Option T) (ys : List (Option T)) → entry_at (trim_head x ys) zero ≡ x
+entry-head : {T : Type 0} (x : Option T) (ys : List (Option T)) → entry_at (with_head x ys) zero ≡ x
 entry-head None [] = refl
 entry-head None (y ∷ ys) = refl
 entry-head (Some x) ys = refl
 
-entry-tail : {T : Type 0} (x : Option T) (ys : List (Option T)) (s : ℕ) → entry_at (trim_head x ys) (suc s) ≡ entry_at ys s
+entry-tail : {T : Type 0} (x : Option T) (ys : List (Option T)) (s : ℕ) → entry_at (with_head x ys) (suc s) ≡ entry_at ys s
 entry-tail None [] s = refl
 entry-tail None (y ∷ ys) s = refl
 entry-tail (Some x) ys s = refl
@@ -66,15 +66,15 @@ entry_at-past (x ∷ xs) (suc s) h = entry_at-past xs s (le_of_suc-le-suc h)
 
 trimmed-gaps : {T : Type 0} (n : ℕ) → trimmed {T = T} (replicate n None) ≡ []
 trimmed-gaps zero = refl
-trimmed-gaps (suc n) = ap (trim_head None) (trimmed-gaps n)
+trimmed-gaps (suc n) = ap (with_head None) (trimmed-gaps n)
 
 pub trimmed-append-gaps : {T : Type 0} (xs : List (Option T)) (n : ℕ) → trimmed (xs ++ replicate n None) ≡ trimmed xs
 trimmed-append-gaps [] n = trimmed-gaps n
-trimmed-append-gaps (x ∷ xs) n = ap (trim_head x) (trimmed-append-gaps xs n)
+trimmed-append-gaps (x ∷ xs) n = ap (with_head x) (trimmed-append-gaps xs n)
 
 -- The front.
 
-gap-head : {T : Type 0} (x : Option T) (ys zs : List (Option T)) → entries_to_gap ys ≡ entries_to_gap zs → entries_to_gap (trim_head x ys) ≡ entries_to_gap (x ∷ zs)
+gap-head : {T : Type 0} (x : Option T) (ys zs : List (Option T)) → entries_to_gap ys ≡ entries_to_gap zs → entries_to_gap (with_head x ys) ≡ entries_to_gap (x ∷ zs)
 gap-head None [] zs e = refl
 gap-head None (y ∷ ys) zs e = refl
 gap-head (Some x) ys zs e = ap (λ ws. x ∷ ws) e
@@ -131,16 +131,16 @@ front_of-put_at-front [] v = refl
 front_of-put_at-front (None ∷ xs) v = omega arith
 front_of-put_at-front (Some x ∷ xs) v = let more = front_of-put_at-front xs v in omega (arith, more)
 
-front_of-drop-trim_head : {T : Type 0} (x : Option T) (ys : List (Option T)) (k : ℕ) → front_of (drop (suc k) (trim_head x ys)) ≡ front_of (drop k ys)
-front_of-drop-trim_head None [] zero = refl
-front_of-drop-trim_head None [] (suc k) = refl
-front_of-drop-trim_head None (y ∷ ys) k = refl
-front_of-drop-trim_head (Some x) ys k = refl
+front_of-drop-with_head : {T : Type 0} (x : Option T) (ys : List (Option T)) (k : ℕ) → front_of (drop (suc k) (with_head x ys)) ≡ front_of (drop k ys)
+front_of-drop-with_head None [] zero = refl
+front_of-drop-with_head None [] (suc k) = refl
+front_of-drop-with_head None (y ∷ ys) k = refl
+front_of-drop-with_head (Some x) ys k = refl
 
 front_of-drop-trimmed : {T : Type 0} (xs : List (Option T)) (k : ℕ) → front_of (drop k (trimmed xs)) ≡ front_of (drop k xs)
 front_of-drop-trimmed xs zero = front_of-trimmed xs
 front_of-drop-trimmed [] (suc k) = refl
-front_of-drop-trimmed (x ∷ xs) (suc k) = front_of-drop-trim_head x (trimmed xs) k ∙ front_of-drop-trimmed xs k
+front_of-drop-trimmed (x ∷ xs) (suc k) = front_of-drop-with_head x (trimmed xs) k ∙ front_of-drop-trimmed xs k
 
 pub front_of-put_at-trimmed : {T : Type 0} (xs : List (Option T)) (s : ℕ) (v : T) → s ≡ front_of xs → front_of (put_at (trimmed xs) s v) ≡ suc s + front_of (drop (suc s) xs)
 front_of-put_at-trimmed {T} xs s v here =

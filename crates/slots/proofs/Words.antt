@@ -1,5 +1,5 @@
 -- The names used in the proofs of this crate, re-exported from one place.
-pub use Rattle.slots.specs.FiniteMap.{SlotsView, entries_to_gap, entry_at, front_of, put_at, top_of, trim_head, trimmed}
+pub use Rattle.slots.specs.FiniteMap.{SlotsView, entries_to_gap, entry_at, front_of, put_at, top_of, with_head, trimmed}
 pub use Rattle.slots.specs.Stored.Pages.{AreFullSize, joined}
 pub use Rattle.std.proofs.Common.{Bool, Bor, IsTrue, List, MatchOption, None, Option, Some, [], add-one, ap, append-nil, append_assoc, arith, drop, false, get_or, inl, inr, le_of_suc-le-suc, length, length-append, max, refl, replicate, set, slice_get, suc, sym, true, zero, ℕ, ◌%◌, ◌*◌, ◌++◌, ◌+◌, ◌-◌, ◌/◌, ◌<◌, ◌↔◌, ◌∙◌, ◌∷◌, ◌≡◌, ◌≤◌, ◌⊎◌}
 pub use Rattle.std.proofs.lemmas.Grind.{common_steps}

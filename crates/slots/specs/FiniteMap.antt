@@ -1,6 +1,8 @@
 -- A finite map from slots to entries.
--- Source: the log of Lamport's Paxos Made Simple, section 3, where each instance of the algorithm has a number.
--- The code has pages of options. Here a map is a list of options, by slot, that is empty or ends in an entry.
+-- Source: the log of Lamport's Paxos Made Simple, section 3, where each instance of the algorithm
+-- has a number.
+-- The code has pages of options. Here a map is a list of options, by slot, that is empty or ends in
+-- an entry.
 use Rattle.std.specs.Prelude.{ℕ, zero, suc, List, [], ◌∷◌, Option, Some, None, length}
 
 -- the entry at slot s; None if the slot is empty
@@ -26,24 +28,25 @@ entries_to_gap (Some x ∷ xs) = x ∷ entries_to_gap xs
 abbrev pub front_of : {T : Type 0} → List (Option T) → ℕ
 front_of xs = length (entries_to_gap xs)
 
--- one above the greatest slot with an entry, or 0 if there are no entries; this is the length, since a map that is not
--- empty ends in an entry
+-- one above the greatest slot with an entry, or 0 if there are no entries; this is the length,
+-- since a map that is not empty ends in an entry
 abbrev pub top_of : {T : Type 0} → List (Option T) → ℕ
 top_of xs = length xs
 
 -- a slot put before a trimmed list: the empty list if the slot and the list are empty. It removes
 -- no slot of the list.
-abbrev pub trim_head : {T : Type 0} → Option T → List (Option T) → List (Option T)
-trim_head None [] = []
-trim_head None (y ∷ ys) = None ∷ y ∷ ys
-trim_head (Some v) ys = Some v ∷ ys
+abbrev pub with_head : {T : Type 0} → Option T → List (Option T) → List (Option T)
+with_head None [] = []
+with_head None (y ∷ ys) = None ∷ y ∷ ys
+with_head (Some v) ys = Some v ∷ ys
 
 -- the list without the empty slots at its end
 abbrev pub trimmed : {T : Type 0} → List (Option T) → List (Option T)
 trimmed [] = []
-trimmed (x ∷ xs) = trim_head x (trimmed xs)
+trimmed (x ∷ xs) = with_head x (trimmed xs)
 
--- `Slots` as contracts see it: the map, and the number of slots, from 0 on, for which memory is reserved
+-- `Slots` as contracts see it: the map, and the number of slots, from 0 on, for which memory is
+-- reserved
 pub record SlotsView (T : Type 0) : Type 0 where
   pub entries : List (Option T)
   pub capacity : ℕ

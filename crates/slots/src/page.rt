@@ -46,7 +46,8 @@ impl<T: Drop> Page<T> {
         }
     }
 
-    /// Puts an entry at a slot of the page, and returns the one that was there, if any. It does not allocate.
+    /// Puts an entry at a slot of the page, and returns the one that was there, if any. It does not
+    /// allocate.
     pub fn put(&mut self, slot: usize, entry: T) -> Option<T>
         requires { slot < PAGE_SLOTS }
         ensures put { self.new ≡ slice_set self.old slot (Some entry) }

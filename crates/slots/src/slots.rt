@@ -45,9 +45,11 @@ impl<T: Drop> Slots<T> {
         }
     }
 
-    /// Makes room: reserves capacity for a slot and for all slots below it. The entries do not change.
+    /// Makes room: reserves capacity for a slot and for all slots below it. The entries do not
+    /// change.
     ///
-    /// Errors: an allocation fails; the capacity is then unchanged too. Cost: the pages that it adds.
+    /// Errors: an allocation fails; the capacity is then unchanged too. Cost: the pages that it
+    /// adds.
     pub fn room(&mut self, slot: u32) -> Result<(), AllocError>
         requires { slot < SLOTS }
         ensures ok { OnOk result (slot < self.new.capacity) }
@@ -127,7 +129,8 @@ impl<T: Drop> Slots<T> {
         }
     }
 
-    /// Returns the top of the map: one above the greatest slot with an entry, or 0 if there are no entries.
+    /// Returns the top of the map: one above the greatest slot with an entry, or 0 if there are no
+    /// entries.
     pub fn top(&self) -> u32
         ensures top { result ≡ top_of self.now.entries }
         ensures within { result ≤ SLOTS }
@@ -145,7 +148,8 @@ impl<T: Drop> Slots<T> {
     }
 }
 
-/// Returns the first empty slot from `from` on, or the number of slots of all pages if there is none.
+/// Returns the first empty slot from `from` on, or the number of slots of all pages if there is
+/// none.
 fn first_empty_from<T: Drop>(pages: &Pages<T>, from: u32) -> u32
     requires pages { length pages.now ≤ SLOTS }
     requires from { from ≤ length pages.now }

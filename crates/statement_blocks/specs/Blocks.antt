@@ -1,4 +1,5 @@
--- The block of a statement: its line, column and number, its description, its frame if it is an assertion, and the statement.
+-- The block of a statement: its line, column and number, its description, its frame if it is an
+-- assertion, and the statement.
 -- Source: this project's command `show`.
 -- The code appends each part to a buffer.
 use Rattle.std.specs.Prelude.{ℕ, List, [], ◌++◌, map, codes, decimal, Option, Some, None}

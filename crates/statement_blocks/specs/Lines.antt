@@ -43,7 +43,8 @@ after_space name = codes " " ++ name
 abbrev pub group_line : List Name → List ℕ
 group_line group = codes "$d" ++ flat_map after_space group ++ codes "\n"
 
--- the frame of the assertion at a position: its mandatory hypotheses, and its mandatory variables in each active `$d`
+-- the frame of the assertion at a position: its mandatory hypotheses, and its mandatory variables
+-- in each active `$d`
 abbrev pub frame_lines : Database → ℕ → Stmt → List ℕ
 frame_lines S at s =
     flat_map (line_at S) (hypotheses (before (bares S) at) s) ++ flat_map group_line (mandatory_groups (before (bares S) at) s)

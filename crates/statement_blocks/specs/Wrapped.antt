@@ -9,7 +9,8 @@ use Rattle.statement_blocks.specs.declared.wrapping.TheConstants.{WIDTH}
 abbrev pub fits : ℕ → Name → Bool
 fits column w = nat_le (column + 1 + length w) WIDTH
 
--- the bytes before a word: none at the beginning of a line, a space if the word fits, else a line feed
+-- the bytes before a word: none at the beginning of a line, a space if the word fits, else a line
+-- feed
 abbrev pub separator : ℕ → Name → List ℕ
 separator column w = if column == 0 then [] else if fits column w then codes " " else codes "\n"
 

@@ -16,8 +16,8 @@ use std::alloc::{AllocError, Global};
 /// Appends the block of a statement: its line, column and number, its description, its mandatory
 /// hypotheses and disjoint variables if it is an assertion, and the statement without its proof.
 ///
-/// Errors: an allocation fails. Cost: the size of the block and of the description, and of the active
-/// `$d` if there are many.
+/// Errors: an allocation fails. Cost: the size of the block and of the description, and of the
+/// active `$d` if there are many.
 pub fn push_block(
     alloc: Global,
     text: &mut Vec<u8>,

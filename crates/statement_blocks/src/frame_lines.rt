@@ -12,7 +12,8 @@ use frame::{FrameBuffers, Frames};
 use mm_read::Stmt;
 use std::alloc::{AllocError, Global};
 
-/// Appends the mandatory hypotheses of an assertion and its mandatory variables in each active `$d`.
+/// Appends the mandatory hypotheses of an assertion and its mandatory variables in each active
+/// `$d`.
 ///
 /// Cost: the size of its frame, and of the active `$d` if there are many.
 pub(crate) fn push_frame(

@@ -1,8 +1,8 @@
-//! Shows a statement as a block of lines: its line and column in the text, its description, its frame, and the
-//! statement itself.
+//! Shows a statement as a block of lines: its line and column in the text, its description, its
+//! frame, and the statement itself.
 //!
-//! Reading order: `block_input`, `statement_line`, `frame_lines`, `wrapping` (a description in lines of at most
-//! 78 bytes), `block`.
+//! Reading order: `block_input`, `statement_line`, `frame_lines`, `wrapping` (a description in
+//! lines of at most 78 bytes), `block`.
 #![tactic(auto)]
 
 mod block;

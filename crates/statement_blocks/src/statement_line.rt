@@ -7,9 +7,9 @@ use mm_read::Stmt;
 use numbers::push_number;
 use std::alloc::AllocError;
 
-/// Appends a statement without its proof as a line: its label, its keyword and its symbols, separated
-/// by single spaces, and for a `$p` the number of its proof's tokens. Appends nothing for a statement
-/// without a label.
+/// Appends a statement without its proof as a line: its label, its keyword and its symbols,
+/// separated by single spaces, and for a `$p` the number of its proof's tokens. Appends nothing for
+/// a statement without a label.
 pub(crate) fn push_statement(text: &mut Vec<u8>, statement: &Stmt) -> Result<(), AllocError>
     ensures { OnOk result (text.new.items ≡ text.old.items ++ statement_line statement.now) }
 {

@@ -9,7 +9,8 @@ use std::alloc::AllocError;
 /// The maximum number of bytes in a line.
 pub(crate) const WIDTH: usize = 78;
 
-/// Appends the words of a text, wrapped into lines of at most 78 bytes; a longer word has its own line.
+/// Appends the words of a text, wrapped into lines of at most 78 bytes; a longer word has its own
+/// line.
 ///
 /// Cost: the size of the text.
 pub(crate) fn push_wrapped(lines: &mut Vec<u8>, text: &[u8]) -> Result<(), AllocError>

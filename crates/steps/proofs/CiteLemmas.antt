@@ -92,7 +92,8 @@ module _ (S : Database) (at : ℕ) (names : List Name) (legal : HasLegalProperti
     in_rows : (ks : List ℕ) → AreBelow (length d.stored.items) ks → AreBelow (length rows') ks
     in_rows ks b = subst (λ m. AreBelow m ks) (sym count') b
 
-    -- the symbol numbers of the results on the stack and of the marked results are below the count of names
+    -- the symbol numbers of the results on the stack and of the marked results are below the count
+    -- of names
     are_named : AreNamed names results
     are_named = record { stack_named = codes-named S at names rows' d.stack.items is.rows (in_rows d.stack.items is.stack_below); saved_named = codes-named S at names rows' d.saved.items is.rows (in_rows d.saved.items is.saved_below) }
 
@@ -198,7 +199,8 @@ module _ (S : Database) (at : ℕ) (names : List Name) (legal : HasLegalProperti
     assertion-draft new (inl finds) = found-draft S at names legal d new is a_step (below n d.stack.items) run.1 finds low_rest assertion-same
     assertion-draft new (inr (ρ, read, makes)) = made-draft S at names legal d new is a_step (below n d.stack.items) (code_apply ρ c.conclusion.now) makes low_rest low_top (made-follows ρ read) (made-coded ρ read)
 
-    -- whether the step was found or made, it records the citation, and its result is that of the run
+    -- whether the step was found or made, it records the citation, and its result is that of the
+    -- run
     done' : (new : TableDraft) → CitesAssertion d new a c → IsRecorded S at names d label new (with_result st run.0 run.1)
     done' new (inl finds) = (
       (below n d.stack.items, a_step, finds.place, makes-step, found-placed S at names legal d new is a_step (below n d.stack.items) run.1 finds low_rest assertion-same, finds.stack, finds.saved),

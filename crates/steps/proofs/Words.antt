@@ -1,4 +1,5 @@
--- The definitions and lemmas of other crates that the proofs of this crate use, re-exported from one place.
+-- The definitions and lemmas of other crates that the proofs of this crate use, re-exported from
+-- one place.
 pub use Rattle.entries.proofs.StatementRecordLemmas.{get-last}
 pub use Rattle.entries.specs.Hypotheses.{decoded_hypothesis}
 pub use Rattle.entries.specs.SymbolPlaces.{ArePlacesOf, SymbolGroups}

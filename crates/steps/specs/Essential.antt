@@ -1,6 +1,8 @@
--- The essential steps, those that a mathematician reads: the last, and those that a kept step takes for a `$e`.
+-- The essential steps, those that a mathematician reads: the last, and those that a kept step takes
+-- for a `$e`.
 -- Metamath, 4.2.6: a `$f` states the type of a variable, and a `$e` is a premise.
--- The code marks the steps from the last to the first, and lists the marked ones from the first to the last.
+-- The code marks the steps from the last to the first, and lists the marked ones from the first to
+-- the last.
 use Rattle.std.specs.Prelude.{◌≡◌, ◌↔◌, ℕ, suc, Bool, false, if◌then◌else◌, List, [], ◌∷◌, length, map, get_or, Option, Some, None, slice_get}
 use Rattle.steps.specs.Words.{IsStrictlyIncreasing, Stmt, Database, stmt_at, before, is_essential, hypotheses}
 use Rattle.steps.specs.StepTable.{Step}
@@ -35,7 +37,8 @@ pub data IsEssential (S : Database) (steps : List Step) : ℕ → Type 0 where
   is_last : {k : ℕ} → length steps ≡ suc k → IsEssential S steps k
   is_taken : {k : ℕ} → (j : ℕ) (step : Step) → IsEssential S steps j → slice_get steps j ≡ Some step → IsIn k (premise_places S step) → IsEssential S steps k
 
--- the new row is the old one, but takes only the steps that the old one takes for a `$e`, by their numbers among the kept steps
+-- the new row is the old one, but takes only the steps that the old one takes for a `$e`, by their
+-- numbers among the kept steps
 pub record IsRenumbered (S : Database) (kept : List ℕ) (old new : Row) : Type 0 where
   pub position : new.step.position ≡ old.step.position
   pub taken : map (slice_get kept) new.step.taken ≡ map (λ k. Some k) (premise_places S old.step)

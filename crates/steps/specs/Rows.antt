@@ -1,5 +1,6 @@
 -- The rows of a table of steps: each step with its expression.
--- Metamath, 4.2.6: a result is a hypothesis, or follows from earlier results by one substitution in an assertion.
+-- Metamath, 4.2.6: a result is a hypothesis, or follows from earlier results by one substitution in
+-- an assertion.
 -- The code determines the substitution from the rows that a step takes.
 use Rattle.std.specs.Prelude.{◌≡◌, ℕ, List, [], length, map, get_or, Some, slice_get}
 use Rattle.steps.specs.Words.{Name, Stmt, Expr, Database, expr_of, decode, AreBelow, IsHypothesis, IsInstance, premises}

@@ -1,15 +1,18 @@
 -- The steps of a list of items.
--- Metamath, 4.2.6 and appendix B: a citation concludes a result from those that it takes; equal steps are one step.
+-- Metamath, 4.2.6 and appendix B: a citation concludes a result from those that it takes; equal
+-- steps are one step.
 -- The code finds equal steps with an ordered map; here a step is in the list or not.
 use Rattle.std.specs.Prelude.{◌≡◌, ℕ, zero, suc, List, [], ◌∷◌, ◌++◌, length, Some, slice_get}
 use Rattle.steps.specs.Words.{Name, Stmt, Database, before, hypotheses, Carries, IsHypothesis, Item, Cite, Recall, Mark, IsCitable}
 
--- the position of the cited statement, and the steps whose results it takes, by their places in the table, counted from 0
+-- the position of the cited statement, and the steps whose results it takes, by their places in the
+-- table, counted from 0
 pub record Step : Type 0 where
   pub position : ℕ
   pub taken : List ℕ
 
--- the steps so far, the places of the steps whose results are on the stack, and of those whose results were marked
+-- the steps so far, the places of the steps whose results are on the stack, and of those whose
+-- results were marked
 pub record Progress : Type 0 where
   pub steps : List Step
   pub stack : List ℕ

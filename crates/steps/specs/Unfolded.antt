@@ -1,4 +1,5 @@
--- The derivation that a table of steps unfolds to: each step applied to the derivations of the steps that it takes.
+-- The derivation that a table of steps unfolds to: each step applied to the derivations of the
+-- steps that it takes.
 -- Metamath, 4.2.6: a proof is a tree of citations; a table has each subtree once.
 -- The code never unfolds a table: the tree may be exponentially larger.
 use Rattle.std.specs.Prelude.{Bool, false, if◌then◌else◌, List, [], ◌∷◌, ◌++◌, length, map, Option, Some, None, ◌-◌}

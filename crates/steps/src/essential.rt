@@ -109,8 +109,8 @@ fn last_marked(alloc: Global, count: usize) -> Result<Vec<bool>, AllocError>
     Ok(marks)
 }
 
-/// Returns for each step whether it is kept: the last is, and each that a kept step takes for a `$e`. Visits the steps from
-/// the last to the first, since a step takes only earlier steps.
+/// Returns for each step whether it is kept: the last is, and each that a kept step takes for a
+/// `$e`. Visits the steps from the last to the first, since a step takes only earlier steps.
 fn marks_of(
     alloc: Global,
     frames: &Frames,

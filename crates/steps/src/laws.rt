@@ -1,4 +1,5 @@
-//! Laws about the definitions alone. Each is a function that does nothing and ensures a sentence of `specs/Laws`.
+//! Laws about the definitions alone. Each is a function that does nothing and ensures a sentence of
+//! `specs/Laws`.
 
 ghost use Rattle.steps.specs.Laws.{TakeEarlier, StepsAreDistinct};
 

@@ -1,5 +1,5 @@
-//! The mandatory hypotheses of assertions with long lists, listed once for each assertion of a table. An assertion has long
-//! lists if `Frames::whole_view` returns `None` for it.
+//! The mandatory hypotheses of assertions with long lists, listed once for each assertion of a
+//! table. An assertion has long lists if `Frames::whole_view` returns `None` for it.
 ghost use Rattle.std.specs.Prelude.{◌≡◌, [], false, map, is_some, Some, IfOk, IfSome, OnOk};
 ghost use Rattle.mm_read.specs.declared.stmt.Stmt.{Stmt as Statement};
 ghost use Rattle.scope.specs.Active.{stmt_at};
@@ -57,7 +57,8 @@ impl HypothesisList {
         })
     }
 
-    /// Returns a view of the assertion with this expression, without its groups of disjoint variables.
+    /// Returns a view of the assertion with this expression, without its groups of disjoint
+    /// variables.
     fn view<'a>(&'a self, conclusion: &'a [u32]) -> AssertionView<'a>
         ensures typecodes { result.typecodes.now ≡ self.now.typecodes }
         ensures numbered_hypotheses { result.hypotheses ≡ self.now.numbered_hypotheses }
@@ -88,8 +89,9 @@ fn copy_hypotheses(
 
 /// The lists of each cited assertion that has long lists, for one table.
 ///
-/// A citation takes a result for each mandatory hypothesis, and each item adds at most one result. So the lists of the assertions
-/// that a right proof cites have together at most as many hypotheses as the proof has items.
+/// A citation takes a result for each mandatory hypothesis, and each item adds at most one result.
+/// So the lists of the assertions that a right proof cites have together at most as many hypotheses
+/// as the proof has items.
 #[derive(Drop)]
 pub struct LongLists {
     /// Where lists are allocated.
@@ -148,8 +150,8 @@ impl LongLists {
         Ok(index)
     }
 
-    /// Returns the index of the list of the assertion at a position. Makes the list if there is none
-    /// yet. If `has_whole_view`, no list is needed, and the index is 0 and not used.
+    /// Returns the index of the list of the assertion at a position. Makes the list if there is
+    /// none yet. If `has_whole_view`, no list is needed, and the index is 0 and not used.
     ///
     /// Errors: an allocation fails. Cost: log n for n lists, and once for each assertion that of
     /// `Frames::fill_buffers`.
@@ -173,8 +175,8 @@ impl LongLists {
         }
     }
 
-    /// Returns a view of the assertion at a position: `whole_view` if it is given, else a view of the list at an index, without
-    /// groups of disjoint variables.
+    /// Returns a view of the assertion at a position: `whole_view` if it is given, else a view of
+    /// the list at an index, without groups of disjoint variables.
     pub fn view_at<'a>(
         &'a self,
         frames: &'a Frames,

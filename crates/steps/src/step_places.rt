@@ -1,12 +1,13 @@
-//! Finds equal steps by a map from the key of a step to its place. The key is the position that the step cites and the places
-//! that it takes.
+//! Finds equal steps by a map from the key of a step to its place. The key is the position that the
+//! step cites and the places that it takes.
 ghost use Rattle.std.specs.Prelude.{◌≡◌, ◌≢◌, ℕ, ◌∷◌, List, None, Some, IfOk, OnOk};
 ghost use Rattle.steps.specs.Stored.Drafted.{place_of};
 
 use std::alloc::{AllocError, Global};
 use std::collections::BTreeMap;
 
-/// Returns the key of a step: the cited position, followed by the places of the steps that it takes.
+/// Returns the key of a step: the cited position, followed by the places of the steps that it
+/// takes.
 pub fn step_key(alloc: Global, position: usize, taken: &[usize]) -> Result<Vec<usize>, AllocError>
     ensures { IfOk result (λ key. key.items ≡ position ∷ taken.now) }
 {

@@ -16,7 +16,8 @@ use std::alloc::{AllocError, Global};
 use std::marker::Model;
 use subst::{Buffer, SYMBOLS_LIMIT, range_between, symbols_at};
 
-/// The steps of a proof without duplicates, each after the steps that it takes. Contracts see the list of rows.
+/// The steps of a proof without duplicates, each after the steps that it takes. Contracts see the
+/// list of rows.
 #[derive(Drop)]
 pub struct ProofTable {
     /// The steps, each with the range of its expression.
@@ -89,7 +90,8 @@ impl ProofTable {
         self.stored[place].position
     }
 
-    /// Returns the places of the steps whose results the step at a place takes, in the order of the hypotheses.
+    /// Returns the places of the steps whose results the step at a place takes, in the order of the
+    /// hypotheses.
     pub fn taken(&self, place: usize) -> &[usize]
         requires { place < length self.now }
         ensures { result.now ≡ (get_or self.now place no_row).step.taken }

@@ -138,9 +138,9 @@ fn fill_ranges(
     Ok(())
 }
 
-/// Cites an assertion: pops the results for its hypotheses and pushes its own, and makes its step if
-/// there is none yet. `symbol_places` has the places of the symbols in the assertion's expression, if
-/// they are known.
+/// Cites an assertion: pops the results for its hypotheses and pushes its own, and makes its step
+/// if there is none yet. `symbol_places` has the places of the symbols in the assertion's
+/// expression, if they are known.
 ///
 /// Errors: an allocation fails, or the expressions exceed `SYMBOLS_LIMIT` symbols. Cost: a look-up
 /// among the steps; for a new one that of `conclude`.

@@ -1,4 +1,5 @@
--- The test of the disjoint variable condition succeeds exactly if both conditions on the images of disjoint variables hold.
+-- The test of the disjoint variable condition succeeds exactly if both conditions on the images of
+-- disjoint variables hold.
 use Rattle.subst.proofs.Words.{◌≡◌, Bool, true, false, not, ◌&&◌, ◌||◌, List, [], ◌∷◌, refl, list_all, list_any, sym, ◌∙◌, ap, true≢false, inl, inr, and_parts, and_from, not-true, or_left, or_right, or_cases, cases_Bool, not_from_false, false_from_ne_true, Name, name_eq, has_name, Expr, Database, is_variable, name_same, same_name, active_disjoint_lists, is_pair, together, Images, image, are_disjoint, is_group_disjoint, are_groups_disjoint, all-from, pair_at, disjoint-from, DisjointConditionLaw, AreImagesDisjoint, all-has}
 
 -- ---- two images

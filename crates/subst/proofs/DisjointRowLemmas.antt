@@ -87,7 +87,8 @@ told-more v f p ws n first next = record {
 pub told-all : (v : Numbered) (f : MetVariables) (p : ℕ) (ws : List PlaceWord) (n : ℕ) → length ws ≤ n → AreToldFirst v f p ws n → DecidesPlaceAndWords v f p ws true
 told-all v f p ws n long told = λ q h. (let low = h.there in told.each h.word q (omega (arith, long, low)) h.has)
 
--- if the variable is disjoint from those of the word that are not recorded, it is disjoint from all of the word
+-- if the variable is disjoint from those of the word that are not recorded, it is disjoint from all
+-- of the word
 pub told-word : (v : Numbered) (f : MetVariables) (rows : List RowWord) (p : ℕ) (w : PlaceWord) (known : ℕ) → w.bits < 2 ^ 64 → known < 2 ^ 64 → AreFacts v f rows → ((b : ℕ) → bit_at known b ≡ 1 → HasFact rows p (64 * w.index + b))
     → DecidesPlaceAndWord v f p (record { index = w.index; bits = bit_and w.bits (bit_not w64 known) }) true → DecidesPlaceAndWord v f p w true
 told-word v f rows p w known fits other facts recorded asked = λ q h. elim (and-rest w.bits known h.bit fits other h.set) [
@@ -141,7 +142,8 @@ are_told-more v f words ws n first next = record { each = λ p q h b. elim (word
 pub are_told-all : (v : Numbered) (f : MetVariables) (words ws : List PlaceWord) (n : ℕ) → length words ≤ n → AreTold v f words ws n → DecidesWordsAndWords v f words ws true
 are_told-all v f words ws n long told = λ p q h b. told.each p q (let low = h.there in record { word = h.word; there = omega (arith, low, long); has = h.has }) b
 
--- if the variable is disjoint from those of the word, the facts are still true after the word is recorded
+-- if the variable is disjoint from those of the word, the facts are still true after the word is
+-- recorded
 pub told-facts : (v : Numbered) (f : MetVariables) (old new : List RowWord) (p : ℕ) (w : PlaceWord) → AreFacts v f old → RecordsWord old new p w → p < length f.variables → ((b : ℕ) → bit_at w.bits b ≡ 1 → 64 * w.index + b < length f.variables)
     → DecidesPlaceAndWord v f p w true → AreFacts v f new
 told-facts v f old new p w facts records row below told = facts-recorded v f old new p w facts records (λ q h. (let place = h.place in let low = below h.bit h.set in record { row = row; place = omega (arith, place, low); disjoint = told q h }))

@@ -88,7 +88,8 @@ module _ (D : Database) (image_of : ℕ → Expr) (group : List ℕ) where
       all-at (is_number_disjoint D image_of group) group
       (λ a h. all-at (are_two_disjoint D image_of (get_or group a 0)) group (λ b l. all.each a b (omega (arith, h, long)) (omega (arith, l, long))))
 
-  -- if the image of the next number is disjoint from the earlier ones, the first n + 1 are pairwise disjoint
+  -- if the image of the next number is disjoint from the earlier ones, the first n + 1 are pairwise
+  -- disjoint
   pub pairwise-next : (n : ℕ) → n < length group → ArePairwise n → is_number_disjoint D image_of (take n group) (get_or group n 0) ≡ true → ArePairwise (n + 1)
   pairwise-next n there front told =
       pairwise-more n front

@@ -1,4 +1,5 @@
--- The definitions and lemmas of std and of the layers below that the proofs of this crate use, re-exported from one place.
+-- The definitions and lemmas of std and of the layers below that the proofs of this crate use,
+-- re-exported from one place.
 pub use Rattle.entries.specs.PositionSets.{AreAbove, Ascends}
 pub use Rattle.entries.specs.SymbolPlaces.{AreGroupsFrom, IsGroupOf, IsGrouped}
 pub use Rattle.frame.proofs.ActiveDisjointLemmas.{all-from, below-at, disjoint-from, last_part, pair_at}

@@ -5,7 +5,8 @@
 use Rattle.std.specs.Prelude.{ℕ, List}
 use Rattle.frame.specs.Parts.{Numbered}
 
--- the statements and names that the cache is for, and the symbols of the buffer when facts were last recorded
+-- the statements and names that the cache is for, and the symbols of the buffer when facts were
+-- last recorded
 pub record CacheSubject : Type 0 where
   pub about : Numbered
   pub buffer_symbols : List ℕ

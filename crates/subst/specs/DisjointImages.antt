@@ -1,5 +1,6 @@
 -- The disjoint variable condition over numbers.
--- Metamath, 4.2.6: no variable is in both images of two variables that a `$d` makes disjoint, and each pair of variables, one from each image, is in an active `$d`.
+-- Metamath, 4.2.6: no variable is in both images of two variables that a `$d` makes disjoint, and
+-- each pair of variables, one from each image, is in an active `$d`.
 -- The code decides `are_groups_disjoint` over numbers, one group and one number at a time.
 use Rattle.std.specs.Prelude.{ℕ, Bool, ◌||◌, ◌==◌, List}
 use Rattle.subst.specs.Words.{list_all, Name, Expr, Database, decode, CodeImages, code_image, are_disjoint}

@@ -5,7 +5,8 @@
 use Rattle.std.specs.Prelude.{◌≡◌, ℕ, ◌↔◌, ◌&&◌, List, IsTrue}
 use Rattle.subst.specs.Words.{list_any, Name, has_name, Expr, Database, is_variable, decode, AreCodes, AreDistinct, active_disjoint_lists, together, CodeImages, Images, image, apply, code_apply, images_of_names, are_groups_disjoint}
 
--- if no two numbers stand for one name, to substitute and then read the names is to read the names and then substitute
+-- if no two numbers stand for one name, to substitute and then read the names is to read the names
+-- and then substitute
 abbrev pub SubstitutionOverNames : Type 0
 SubstitutionOverNames =
     (names : List Name) (σ : CodeImages) (e : List ℕ) → AreDistinct names → AreCodes names e

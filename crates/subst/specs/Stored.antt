@@ -1,4 +1,5 @@
--- Images stored by number, symbols appended to a buffer, and the tables of the cache. Public clauses cite only `Appends` of these.
+-- Images stored by number, symbols appended to a buffer, and the tables of the cache. Public
+-- clauses cite only `Appends` of these.
 pub mod ImageTables
 pub mod Written
 pub mod VariablePlaces

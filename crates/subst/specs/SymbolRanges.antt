@@ -2,7 +2,7 @@
 -- Source: this project's representation of results; images of variables are Metamath, 4.2.6.
 -- The code stores where each image begins and ends.
 use Rattle.std.specs.Prelude.{◌≡◌, ℕ, ◌≤◌, nat_eq, List, [], ◌∷◌, map, Some, slice_range}
-use Rattle.subst.specs.Words.{lookup, CodeImages}
+use Rattle.subst.specs.Words.{lookup, CodeImages, code_image}
 use Rattle.subst.specs.declared.symbol_range.SymbolRange.{SymbolRange}
 
 -- the symbols in a range
@@ -17,6 +17,10 @@ AreWithin n (p ∷ ranges) = (p.start ≤ p.end) × (p.end ≤ n) × AreWithin n
 -- the images in these ranges
 abbrev pub images_at : List ℕ → List (ℕ × SymbolRange) → CodeImages
 images_at symbols ranges = map (λ p. (p.0, symbols_in symbols p.1)) ranges
+
+-- the image of a symbol, which is in a range of the same symbols
+abbrev pub image_at : List ℕ → List (ℕ × SymbolRange) → ℕ → List ℕ
+image_at symbols ranges x = code_image (images_at symbols ranges) x
 
 -- each image lies within the first n symbols
 pub record AreInside (n : ℕ) (ranges : List (ℕ × SymbolRange)) : Type 0 where

@@ -6,10 +6,12 @@ ghost use Rattle.subst.specs.SymbolRanges.{symbols_in};
 use crate::symbol_range::SymbolRange;
 use std::simd::prelude::*;
 
-/// The number of symbols that are copied at once. Up to this many are overwritten after the end of a copy.
+/// The number of symbols that are copied at once. Up to this many are overwritten after the end of
+/// a copy.
 pub const LANES: usize = 32;
 
-/// Copies the `len` symbols from `from` on, all of them before `at`, to `at`. A copy of at most `LANES` symbols does not enter the loop.
+/// Copies the `len` symbols from `from` on, all of them before `at`, to `at`. A copy of at most
+/// `LANES` symbols does not enter the loop.
 #[inline(always)]
 fn copy_run(symbols: &mut [u32], from: usize, len: usize, at: usize)
     requires before { from + len ≤ at }

@@ -1,10 +1,10 @@
 //! A cache of facts about the variables of one proof.
-ghost use Rattle.std.specs.Prelude.{◌≡◌, ◌++◌, ◌≤◌, List, ℕ, [], length, map, IfOk};
+ghost use Rattle.std.specs.Prelude.{◌≡◌, ◌++◌, ◌≤◌, List, ℕ, [], length, IfOk};
 ghost use Rattle.frame.specs.Below.{AllBelow, AreBelow};
 ghost use Rattle.frame.specs.Disjoint.{are_groups_disjoint};
-ghost use Rattle.frame.specs.Substitution.{code_apply, images_of_names};
-ghost use Rattle.names.specs.Codes.{AreDistinct, decode};
-ghost use Rattle.subst.specs.Images.{AreOver};
+ghost use Rattle.frame.specs.Substitution.{code_apply};
+ghost use Rattle.names.specs.Codes.{AreDistinct};
+ghost use Rattle.subst.specs.Images.{AreOver, are_numbered_groups_disjoint};
 ghost use Rattle.subst.specs.SymbolRanges.{AreInside, images_at, symbols_in};
 
 use crate::buffer::Buffer;
@@ -114,7 +114,7 @@ impl DisjointCache {
         requires below { AllBelow (length pairs.now.names) groups.now }
         ensures about { self.new.about ≡ self.old.about }
         ensures symbols { (more : List ℕ) × (symbols.now ≡ self.new.buffer_symbols ++ more) }
-        ensures disjoint { IfOk result (λ ok. ok ≡ are_groups_disjoint pairs.now.statements (images_of_names pairs.now.names (images_at symbols.now images.now)) (map (decode pairs.now.names) groups.now)) }
+        ensures disjoint { IfOk result (λ ok. ok ≡ are_numbered_groups_disjoint pairs.now (images_at symbols.now images.now) groups.now) }
     {
         if groups.len() == 0 {
             return Ok(true);
@@ -139,7 +139,7 @@ impl DisjointCache {
         requires below { AllBelow (length pairs.now.names) groups.now }
         ensures about { self.new.about ≡ self.old.about }
         ensures symbols { self.new.buffer_symbols ≡ symbols.now }
-        ensures disjoint { IfOk result (λ ok. ok ≡ are_groups_disjoint pairs.now.statements (images_of_names pairs.now.names (images_at symbols.now images.now)) (map (decode pairs.now.names) groups.now)) }
+        ensures disjoint { IfOk result (λ ok. ok ≡ are_numbered_groups_disjoint pairs.now (images_at symbols.now images.now) groups.now) }
     {
         self.subject = Subject::grown(&self.subject, symbols);
         let symbols = symbols.as_slice();

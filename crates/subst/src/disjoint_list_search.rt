@@ -80,7 +80,8 @@ fn first_place(words: &[PlaceWord]) -> Option<usize>
     None
 }
 
-/// Returns the number of steps that it takes to mark the symbols of a list, or `None` if that is more than `most`.
+/// Returns the number of steps that it takes to mark the symbols of a list, or `None` if that is
+/// more than `most`.
 ///
 /// Cost: at most `most` steps.
 fn marking_steps(list: &[u32], most: usize) -> Option<usize>
@@ -104,10 +105,11 @@ fn greatest_symbol(list: &[u32]) -> u32 {
     highest
 }
 
-/// Returns `true` only if a list has the variables at all places of `words` and of `others`, and no variable is at places of
-/// both.
+/// Returns `true` only if a list has the variables at all places of `words` and of `others`, and no
+/// variable is at places of both.
 ///
-/// Errors: an allocation fails. Cost: a step for each symbol of the list, and one for every 64 symbols up to its greatest.
+/// Errors: an allocation fails. Cost: a step for each symbol of the list, and one for every 64
+/// symbols up to its greatest.
 fn list_has_both(
     marks: &mut Vec<bool>,
     variables: &VariablePlaces,
@@ -172,7 +174,8 @@ fn remove_mark(marks: &mut Vec<bool>, symbol: usize) -> bool
     true
 }
 
-/// Removes the marks of the variables at the places of a word, and returns `true` only if each had one.
+/// Removes the marks of the variables at the places of a word, and returns `true` only if each had
+/// one.
 #[inline(always)]
 fn remove_marks_of_word(marks: &mut Vec<bool>, variables: &VariablePlaces, word: PlaceWord) -> bool
     requires { (j : ℕ) → HasBit word j → j < length variables.now.variables }
@@ -190,7 +193,8 @@ fn remove_marks_of_word(marks: &mut Vec<bool>, variables: &VariablePlaces, word:
     true
 }
 
-/// Removes the marks of the variables at the places of words, and returns `true` only if each had one.
+/// Removes the marks of the variables at the places of words, and returns `true` only if each had
+/// one.
 fn remove_marks_of_words(
     marks: &mut Vec<bool>,
     variables: &VariablePlaces,

@@ -35,11 +35,12 @@ pub struct RowWord {
     bits: u64,
 }
 
-/// The pairs of variables of a proof that were found to be disjoint. The row of a place has a bit for each place that was found
-/// to be disjoint from it, in words of 64 bits. A bit that is set is a fact; one that is not set says nothing.
+/// The pairs of variables of a proof that were found to be disjoint. The row of a place has a bit
+/// for each place that was found to be disjoint from it, in words of 64 bits. A bit that is set is
+/// a fact; one that is not set says nothing.
 ///
-/// A hint says where in the list a word may be. Words and hints take at most 24 MB, since variables beyond the first 8,192 are
-/// not recorded.
+/// A hint says where in the list a word may be. Words and hints take at most 24 MB, since variables
+/// beyond the first 8,192 are not recorded.
 #[derive(Drop)]
 pub struct DisjointRows {
     /// The index that a word may have in `words`.
@@ -151,8 +152,8 @@ impl DisjointRows {
         Ok(())
     }
 
-    /// Records, once in a proof, that the variables of each of the last active `$d` are disjoint, as
-    /// far as their places are below 64.
+    /// Records, once in a proof, that the variables of each of the last active `$d` are disjoint,
+    /// as far as their places are below 64.
     ///
     /// Errors: an allocation fails. Cost: a constant: at most 16 `$d` of at most 16 symbols are
     /// read.
@@ -231,7 +232,8 @@ impl DisjointRows {
         Ok(())
     }
 
-    /// Looks up whether the variable at a place is disjoint from each of those at the places of a word, and records it if so.
+    /// Looks up whether the variable at a place is disjoint from each of those at the places of a
+    /// word, and records it if so.
     #[cold]
     #[inline(never)]
     fn look_up(
@@ -255,7 +257,8 @@ impl DisjointRows {
         Ok(true)
     }
 
-    /// Returns `true` only if each of the places below 64 of a word was found to be disjoint from each of those of another.
+    /// Returns `true` only if each of the places below 64 of a word was found to be disjoint from
+    /// each of those of another.
     ///
     /// Cost: a step for each place of the first word.
     #[inline(always)]
@@ -276,11 +279,12 @@ impl DisjointRows {
         true
     }
 
-    /// Returns whether the variable at a place is disjoint from each of those at the places of other words.
+    /// Returns whether the variable at a place is disjoint from each of those at the places of
+    /// other words.
     ///
     /// Errors: an allocation fails.
-    /// Cost: a step for each of the other words; that of `Pairs::has_by_memo` for each two variables that are not yet known to
-    /// be disjoint.
+    /// Cost: a step for each of the other words; that of `Pairs::has_by_memo` for each two
+    /// variables that are not yet known to be disjoint.
     #[inline(always)]
     fn is_disjoint(
         &mut self,
@@ -306,7 +310,8 @@ impl DisjointRows {
         Ok(true)
     }
 
-    /// Returns whether each of the variables at the places of a word is disjoint from each of those at the places of others.
+    /// Returns whether each of the variables at the places of a word is disjoint from each of those
+    /// at the places of others.
     #[inline(always)]
     fn is_word_disjoint(
         &mut self,
@@ -334,7 +339,8 @@ impl DisjointRows {
         Ok(true)
     }
 
-    /// Returns whether each of the variables at the places of words is disjoint from each of those at the places of others.
+    /// Returns whether each of the variables at the places of words is disjoint from each of those
+    /// at the places of others.
     ///
     /// Errors: an allocation fails. Cost: that of `is_disjoint` for each place of the words.
     pub fn are_disjoint(
@@ -361,10 +367,12 @@ impl DisjointRows {
 
     /// Returns the answer of `are_disjoint`, for words with many places.
     ///
-    /// If `are_disjoint` would take many steps, one active `$d` that has all of the variables is looked for first.
+    /// If `are_disjoint` would take many steps, one active `$d` that has all of the variables is
+    /// looked for first.
     ///
-    /// Errors: an allocation fails. Cost: the symbols of one active `$d` that has all of them, and of those read before it;
-    /// if none is found within as many steps as `are_disjoint` takes, also that of `are_disjoint`.
+    /// Errors: an allocation fails. Cost: the symbols of one active `$d` that has all of them, and
+    /// of those read before it; if none is found within as many steps as `are_disjoint` takes, also
+    /// that of `are_disjoint`.
     #[inline(never)]
     pub fn are_many_disjoint(
         &mut self,
@@ -393,7 +401,8 @@ impl DisjointRows {
     }
 }
 
-/// Returns whether the variable at a place is in an active `$d` with each of those at the places of a word.
+/// Returns whether the variable at a place is in an active `$d` with each of those at the places of
+/// a word.
 ///
 /// Cost: that of `Pairs::has_by_memo` for each of them.
 fn are_pairs(

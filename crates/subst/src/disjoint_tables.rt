@@ -4,10 +4,10 @@ ghost use Rattle.std.specs.List.{list_all};
 ghost use Rattle.frame.specs.Below.{AllBelow, AreBelow};
 ghost use Rattle.frame.specs.Substitution.{code_apply};
 ghost use Rattle.frame.specs.Parts.{Numbered};
-ghost use Rattle.subst.specs.DisjointImages.{are_numbers_disjoint, image_named, is_number_disjoint};
+ghost use Rattle.subst.specs.DisjointImages.{image_named, is_number_disjoint};
 ghost use Rattle.subst.specs.Images.{AreOver};
 ghost use Rattle.subst.specs.SymbolRanges.{AreInside, images_at, symbols_in};
-ghost use Rattle.subst.specs.Stored.DisjointTables.{AreTables, are_named_disjoint};
+ghost use Rattle.subst.specs.Stored.DisjointTables.{AreTables, are_named_disjoint, is_named_group_disjoint};
 ghost use Rattle.subst.specs.Stored.ImageVariables.{AreReadImages};
 ghost use Rattle.subst.specs.Stored.VariablePlaces.{Grows};
 
@@ -23,7 +23,8 @@ use entries::Groups;
 use frame::{Frames, Pairs};
 use std::alloc::{AllocError, Global};
 
-/// The variables of one proof, those of its images, and the pairs of variables and of images that were found to be disjoint.
+/// The variables of one proof, those of its images, and the pairs of variables and of images that
+/// were found to be disjoint.
 #[derive(Drop)]
 pub struct DisjointTables {
     /// The place of each variable that was met in the proof.
@@ -85,8 +86,8 @@ impl DisjointTables {
 
     /// Returns whether the images of two variables are disjoint, by comparing their variables.
     ///
-    /// Errors: an allocation fails. Cost: the images if they were not read in this citation, and that of
-    /// `DisjointRows::are_many_disjoint`.
+    /// Errors: an allocation fails. Cost: the images if they were not read in this citation, and
+    /// that of `DisjointRows::are_many_disjoint`.
     fn are_disjoint(
         &mut self,
         pairs: &Pairs<'_>,
@@ -119,8 +120,8 @@ impl DisjointTables {
             .are_many_disjoint(pairs, &self.variables, words, others)
     }
 
-    /// Returns whether the images of two variables are disjoint. Does not compare a recorded pair of
-    /// images again. Records a pair that is found to be disjoint, if both images are ranges.
+    /// Returns whether the images of two variables are disjoint. Does not compare a recorded pair
+    /// of images again. Records a pair that is found to be disjoint, if both images are ranges.
     ///
     /// Errors: an allocation fails. Cost: log n for n recorded pairs; that of `are_disjoint` if
     /// this one is not recorded.
@@ -214,7 +215,7 @@ impl DisjointTables {
         requires below { AreBelow (length pairs.now.names) group.now }
         ensures tables { AreTables pairs.now symbols.now self.new }
         ensures read { AreReadImages pairs.now self.new.variables symbols.now images.now self.new.images }
-        ensures disjoint { IfOk result (λ ok. ok ≡ are_numbers_disjoint pairs.now.statements (image_named pairs.now.names (images_at symbols.now images.now)) group.now) }
+        ensures disjoint { IfOk result (λ ok. ok ≡ is_named_group_disjoint pairs.now symbols.now images.now group.now) }
     {
         self.earlier_places.clear();
         for (index, k) in group.iter().enumerate() {
@@ -241,11 +242,11 @@ impl DisjointTables {
         Ok(true)
     }
 
-    /// Returns `true` only if all variables of the images of a group have places below 64, and the images of each two were
-    /// found to be disjoint.
+    /// Returns `true` only if all variables of the images of a group have places below 64, and the
+    /// images of each two were found to be disjoint.
     ///
-    /// Errors: an allocation fails. Cost: the images that were not read in this citation, and a step for each variable of
-    /// each image.
+    /// Errors: an allocation fails. Cost: the images that were not read in this citation, and a
+    /// step for each variable of each image.
     #[inline(always)]
     fn is_group_known_disjoint(
         &mut self,
@@ -261,7 +262,7 @@ impl DisjointTables {
         requires below { AreBelow (length pairs.now.names) group.now }
         ensures tables { AreTables pairs.now symbols.now self.new }
         ensures read { AreReadImages pairs.now self.new.variables symbols.now images.now self.new.images }
-        ensures disjoint { IfOk result (λ ok. ok ≡ true → are_numbers_disjoint pairs.now.statements (image_named pairs.now.names (images_at symbols.now images.now)) group.now ≡ true) }
+        ensures disjoint { IfOk result (λ ok. ok ≡ true → is_named_group_disjoint pairs.now symbols.now images.now group.now ≡ true) }
     {
         let mut before = 0;
         for k in group {
@@ -293,7 +294,7 @@ impl DisjointTables {
         requires inside { AreInside (length symbols.now) images.now }
         requires below { AllBelow (length pairs.now.names) groups.now }
         ensures tables { AreTables pairs.now symbols.now self.new }
-        ensures disjoint { IfOk result (λ ok. ok ≡ list_all (are_numbers_disjoint pairs.now.statements (image_named pairs.now.names (images_at symbols.now images.now))) groups.now) }
+        ensures disjoint { IfOk result (λ ok. ok ≡ list_all (is_named_group_disjoint pairs.now symbols.now images.now) groups.now) }
     {
         self.rows.read_last_lists_once(pairs, &mut self.variables)?;
         self.images.begin_citation();
@@ -312,10 +313,11 @@ impl DisjointTables {
         Ok(true)
     }
 
-    /// Records the variables of a long result from the images that it was made of, without reading it.
+    /// Records the variables of a long result from the images that it was made of, without reading
+    /// it.
     ///
-    /// Errors: an allocation fails. Cost: the symbols of the expression, and each image once, or the number of its variables
-    /// if it is long.
+    /// Errors: an allocation fails. Cost: the symbols of the expression, and each image once, or
+    /// the number of its variables if it is long.
     pub fn record_result(
         &mut self,
         pairs: &Pairs<'_>,

@@ -34,7 +34,8 @@ impl ImagePair {
 
 /// The pairs of images that were found to be disjoint in a proof.
 ///
-/// The map from the starts of two images to an index is only a guess; the pair at that index decides.
+/// The map from the starts of two images to an index is only a guess; the pair at that index
+/// decides.
 #[derive(Drop)]
 pub struct ImagePairs {
     /// By the starts of two images, the index in `pairs` that they may have.

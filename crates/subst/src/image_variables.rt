@@ -1,11 +1,11 @@
 //! The places of the variables of images. An image is read once in a citation.
-ghost use Rattle.std.specs.Prelude.{◌≡◌, ◌<◌, ◌≤◌, ◌++◌, ◌∷◌, [], ℕ, get_or, length, slice_range, take, true, IfOk, IfSome, OnErr, OnOk};
+ghost use Rattle.std.specs.Prelude.{◌≡◌, ◌<◌, ◌≤◌, ◌++◌, ◌∷◌, [], ℕ, get_or, length, slice_range, true, IfOk, IfSome, OnErr, OnOk};
 ghost use Rattle.std.specs.List.{Contains};
 ghost use Rattle.frame.specs.Below.{AreBelow};
 ghost use Rattle.frame.specs.Substitution.{code_image};
 ghost use Rattle.subst.specs.Images.{AreOver};
 ghost use Rattle.subst.specs.SymbolRanges.{AreInside, images_at};
-ghost use Rattle.subst.specs.Stored.ImageVariables.{AddsImage, AppendsCurrent, AppendsWord, AreLongImages, AreReadImages, GrowsWords, IsWordRangeOf, RecordsReadImage, AppendsAndChangesCurrent, ChangesOnlyCurrent, RecordsLongImage};
+ghost use Rattle.subst.specs.Stored.ImageVariables.{AddsImage, AppendsCurrent, AppendsWord, AreLongImages, AreReadImages, GrowsWords, IsWordRangeOf, RecordsReadImage, AppendsAndChangesCurrent, ChangesOnlyCurrent, RecordsLongImage, with_long_images_only};
 ghost use Rattle.subst.specs.Stored.PlaceSets.{AddsWords, first_word};
 ghost use Rattle.subst.specs.Stored.VariablePlaces.{ArePlaced, Grows};
 
@@ -22,8 +22,9 @@ use std::marker::Model;
 /// A result with more symbols than this is long: its variables are recorded.
 pub const LONG_RESULT: usize = 1024;
 
-/// The words of a result's variables are recorded if they are at most the number of its symbols over this: with more words,
-/// reading them would cost about as much as reading the result, and they would need about as much memory.
+/// The words of a result's variables are recorded if they are at most the number of its symbols
+/// over this: with more words, reading them would cost about as much as reading the result, and
+/// they would need about as much memory.
 const SYMBOLS_PER_WORD: usize = 8;
 
 /// A range of a list of words: from `start` up to, and not including, `end`.
@@ -47,10 +48,11 @@ pub struct LongImage {
     words: WordRange,
 }
 
-/// The places of the variables of images, as words of bits: those of long images for a whole proof, the others for one
-/// citation.
+/// The places of the variables of images, as words of bits: those of long images for a whole proof,
+/// the others for one citation.
 ///
-/// A hint gives the index that a symbol may have among those read, so no table by symbol is cleared.
+/// A hint gives the index that a symbol may have among those read, so no table by symbol is
+/// cleared.
 #[derive(Drop)]
 pub struct ImageVariables {
     /// The words of all images that were read, those of long images first.
@@ -115,7 +117,7 @@ impl ImageVariables {
 
     /// Begins a citation: removes the images that are not long.
     pub fn begin_citation(&mut self)
-        ensures { self.new ≡ record { words = take self.old.kept_len self.old.words; current = []; kept_len = self.old.kept_len; read_images = []; long_images = self.old.long_images } }
+        ensures { self.new ≡ with_long_images_only self.old }
     {
         self.words.truncate(self.kept_len);
         self.current.clear();
@@ -250,8 +252,8 @@ impl ImageVariables {
         }
     }
 
-    /// Returns `true` only if the symbol at an index of a list also occurs at a smaller one. Finds each repeated symbol if
-    /// called for each index in turn.
+    /// Returns `true` only if the symbol at an index of a list also occurs at a smaller one. Finds
+    /// each repeated symbol if called for each index in turn.
     ///
     /// Errors: an allocation fails. Cost: constant.
     #[inline(always)]
@@ -346,7 +348,8 @@ impl ImageVariables {
         self.current.clear();
     }
 
-    /// Returns the range of the words of a symbol's image. Reads the image, unless it is long and was recorded.
+    /// Returns the range of the words of a symbol's image. Reads the image, unless it is long and
+    /// was recorded.
     #[inline(always)]
     fn read_image(
         &mut self,
@@ -385,8 +388,8 @@ impl ImageVariables {
         Ok(())
     }
 
-    /// Returns the range of the words of a symbol's image. Reads the image if it was not read in this
-    /// citation.
+    /// Returns the range of the words of a symbol's image. Reads the image if it was not read in
+    /// this citation.
     ///
     /// Errors: an allocation fails. Cost: that of reading the image, once in a citation; log n for
     /// one of n long images that were recorded.

@@ -12,8 +12,10 @@ use std::marker::Model;
 
 /// A table of images of symbols. A symbol without an image stays itself.
 ///
-/// Contracts see the symbols with their images. The images are in one buffer, including those that were replaced.
-/// Cost: an image is found by one look-up, in a table about twice as long as the greatest number that was set.
+/// Contracts see the symbols with their images. The images are in one buffer, including those that
+/// were replaced.
+/// Cost: an image is found by one look-up, in a table about twice as long as the greatest number
+/// that was set.
 /// Source: Metamath, 4.1.
 #[derive(Drop)]
 pub struct Subst {

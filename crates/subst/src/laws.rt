@@ -1,4 +1,5 @@
-//! The laws of substitution and of the disjoint variable condition, each the contract of a function that does nothing.
+//! The laws of substitution and of the disjoint variable condition, each the contract of a function
+//! that does nothing.
 ghost use Rattle.subst.specs.Laws.{SubstitutionOverNames, DisjointConditionLaw};
 
 /// Substitution over numbers is substitution over the names that they stand for.

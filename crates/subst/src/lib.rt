@@ -1,16 +1,19 @@
 //! Simultaneous substitution of images into expressions.
 //!
-//! A symbol's image is a range of a buffer of symbols (`SymbolRange`, `ImageRanges`, `Buffer`). So a verifier takes images
-//! from its results, compares symbols with an expression under these images without writing it, and appends the expression
-//! under them to the buffer. `Subst` is a table of images with a buffer of its own, and `apply` substitutes them all at once.
-//! Symbols are numbers; by a law, this is substitution over the names that they stand for. `DisjointCache` decides whether
-//! images meet the disjoint variable condition.
+//! A symbol's image is a range of a buffer of symbols (`SymbolRange`, `ImageRanges`, `Buffer`). So
+//! a verifier takes images from its results, compares symbols with an expression under these images
+//! without writing it, and appends the expression under them to the buffer. `Subst` is a table of
+//! images with a buffer of its own, and `apply` substitutes them all at once. Symbols are numbers;
+//! by a law, this is substitution over the names that they stand for. `DisjointCache` decides
+//! whether images meet the disjoint variable condition.
 //!
-//! The place of a variable is its index in `VariablePlaces`; a word has a bit for each of 64 places.
+//! The place of a variable is its index in `VariablePlaces`; a word has a bit for each of 64
+//! places.
 //!
-//! Reading order: `symbol_range`, `image_ranges`, `copies`, `writing`, `matching`, `buffer`, `remaining_symbols`, `images`,
-//! `disjoint_condition`; `hints`, `variable_places`, `place_words`, `place_set`, `disjoint_list_search`, `disjoint_rows`,
-//! `image_variables`, `image_pairs`, `disjoint_tables`, `subject`, `disjoint_cache`; `laws`.
+//! Reading order: `symbol_range`, `image_ranges`, `copies`, `writing`, `matching`, `buffer`,
+//! `remaining_symbols`, `images`, `disjoint_condition`; `hints`, `variable_places`, `place_words`,
+//! `place_set`, `disjoint_list_search`, `disjoint_rows`, `image_variables`, `image_pairs`,
+//! `disjoint_tables`, `subject`, `disjoint_cache`; `laws`.
 #![tactic(auto)]
 
 mod buffer;

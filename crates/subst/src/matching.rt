@@ -1,7 +1,8 @@
-//! Compares symbols of a buffer with an expression with all images substituted, without writing the latter.
+//! Compares symbols of a buffer with an expression with all images substituted, without writing the
+//! latter.
 ghost use Rattle.std.specs.Prelude.{◌≡◌, ℕ, ◌∷◌, ◌++◌, ◌↔◌, ◌<◌, ◌≤◌, [], List, length, take, slice_range, IfSome, IfNone, IsTrue};
-ghost use Rattle.frame.specs.Substitution.{code_apply, code_image};
-ghost use Rattle.subst.specs.SymbolRanges.{AreInside, images_at, symbols_in};
+ghost use Rattle.frame.specs.Substitution.{code_apply};
+ghost use Rattle.subst.specs.SymbolRanges.{AreInside, image_at, images_at, symbols_in};
 
 use crate::image_ranges::{ImageRanges, ImageTable};
 use crate::symbol_range::SymbolRange;
@@ -26,8 +27,8 @@ fn common_prefix_len(left: &[u32], right: &[u32]) -> usize
     }
 }
 
-/// Returns whether the first `len` symbols of two lists agree. Compares up to `LANES` symbols at once if both lists have
-/// `LANES` symbols.
+/// Returns whether the first `len` symbols of two lists agree. Compares up to `LANES` symbols at
+/// once if both lists have `LANES` symbols.
 #[inline(always)]
 fn have_same_prefix(left: &[u32], right: &[u32], len: usize) -> bool
     requires left { len ≤ length left.now }
@@ -41,7 +42,8 @@ fn have_same_prefix(left: &[u32], right: &[u32], len: usize) -> bool
     left[..len] == right[..len]
 }
 
-/// Returns the index after the image in a range if the symbols from `at` up to `end` begin with that image, else `None`.
+/// Returns the index after the image in a range if the symbols from `at` up to `end` begin with
+/// that image, else `None`.
 #[inline(always)]
 fn skip_range(symbols: &[u32], range: SymbolRange, at: usize, end: usize) -> Option<usize>
     requires image { (range.start ≤ range.end) × (range.end ≤ length symbols.now) }
@@ -60,7 +62,8 @@ fn skip_range(symbols: &[u32], range: SymbolRange, at: usize, end: usize) -> Opt
     }
 }
 
-/// Returns the index after the image of a symbol if the symbols from `at` up to `end` begin with that image, else `None`.
+/// Returns the index after the image of a symbol if the symbols from `at` up to `end` begin with
+/// that image, else `None`.
 #[inline(always)]
 fn skip_image(
     symbols: &[u32],
@@ -71,8 +74,8 @@ fn skip_image(
 ) -> Option<usize>
     requires inside { AreInside (length symbols.now) images.now }
     requires rest { (at ≤ end) × (end ≤ length symbols.now) }
-    ensures some { IfSome result (λ next. (next ≤ end) × (slice_range symbols.now at end ≡ code_image (images_at symbols.now images.now) symbol ++ slice_range symbols.now next end)) }
-    ensures none { IfNone result ((more : List ℕ) → slice_range symbols.now at end ≡ code_image (images_at symbols.now images.now) symbol ++ more → ⊥) }
+    ensures some { IfSome result (λ next. (next ≤ end) × (slice_range symbols.now at end ≡ image_at symbols.now images.now symbol ++ slice_range symbols.now next end)) }
+    ensures none { IfNone result ((more : List ℕ) → slice_range symbols.now at end ≡ image_at symbols.now images.now symbol ++ more → ⊥) }
 {
     match images.get(symbol) {
         Some(range) => skip_range(symbols, range, at, end),
@@ -81,8 +84,8 @@ fn skip_image(
     }
 }
 
-/// Returns whether the symbols in a range are the expression with all images substituted. The images are ranges of the same
-/// list.
+/// Returns whether the symbols in a range are the expression with all images substituted. The
+/// images are ranges of the same list.
 #[inline(always)]
 pub(crate) fn matches(
     symbols: &[u32],

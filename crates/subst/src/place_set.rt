@@ -13,7 +13,8 @@ use std::marker::Model;
 
 /// A set of places of variables, as a list of words of bits.
 ///
-/// A hint says where in the list the word for 64 places may be, so a set is cleared in constant time.
+/// A hint says where in the list the word for 64 places may be, so a set is cleared in constant
+/// time.
 #[derive(Drop)]
 pub struct PlaceSet {
     /// The index that a word may have in `words`.
@@ -98,8 +99,8 @@ impl PlaceSet {
         Ok(())
     }
 
-    /// Adds a place to the current word, and returns that word. If the place is not one of its 64, adds the word to the set
-    /// and returns a new one with the place.
+    /// Adds a place to the current word, and returns that word. If the place is not one of its 64,
+    /// adds the word to the set and returns a new one with the place.
     #[inline(always)]
     fn add_to_word(&mut self, word: PlaceWord, place: u32) -> Result<PlaceWord, AllocError>
         ensures { IfOk result (λ next. AddsPlaceToWord self.old word self.new next place) }
@@ -114,7 +115,8 @@ impl PlaceSet {
         Ok(PlaceWord { index, bits: bit })
     }
 
-    /// Adds the places of the variables among the symbols, except those in the current word at the end, and returns that word.
+    /// Adds the places of the variables among the symbols, except those in the current word at the
+    /// end, and returns that word.
     #[inline(always)]
     fn add_all_but_last_word(
         &mut self,

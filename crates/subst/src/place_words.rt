@@ -14,8 +14,8 @@ pub struct PlaceWord {
 /// From this many steps on, it costs much to compare two images.
 const MIN_COSTLY_STEPS: usize = 256;
 
-/// Returns the number of steps that it takes to compare the variables at the places of words with those at the places of
-/// `other_words` other words, or `None` if it is below `MIN_COSTLY_STEPS`.
+/// Returns the number of steps that it takes to compare the variables at the places of words with
+/// those at the places of `other_words` other words, or `None` if it is below `MIN_COSTLY_STEPS`.
 ///
 /// Cost: the words, if there are many of both.
 pub fn costly_steps(words: &[PlaceWord], other_words: usize) -> Option<usize> {

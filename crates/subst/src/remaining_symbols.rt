@@ -1,11 +1,11 @@
 //! An expression without the symbols whose images are empty.
-ghost use Rattle.std.specs.Prelude.{◌≡◌, ℕ, List, [], ◌∷◌, ◌++◌, ◌==◌, ◌||◌, ◌<◌, ◌≤◌, ◌^◌, true, false, get_or, length, map, slice_get, slice_index, IfOk, IfSome, IsTrue, OnOk};
-ghost use Rattle.std.specs.List.{filter_map, flat_map, list_any};
+ghost use Rattle.std.specs.Prelude.{◌≡◌, ℕ, List, [], ◌∷◌, ◌++◌, ◌<◌, ◌≤◌, ◌^◌, true, false, get_or, length, map, slice_get, slice_index, IfOk, IfSome, IsTrue, OnOk};
+ghost use Rattle.std.specs.List.{filter_map, flat_map};
 ghost use Rattle.entries.specs.PositionSets.{Ascends};
 ghost use Rattle.entries.specs.Stored.Keys.{index_of, key_of};
 ghost use Rattle.entries.specs.SymbolPlaces.{ArePlacesOf};
 ghost use Rattle.frame.specs.Stored.Hypotheses.{In, ListsExactly};
-ghost use Rattle.subst.specs.RemainingSymbols.{is_among, has_nonempty_image, remaining_group, remaining, HasListed, HaveSameResult};
+ghost use Rattle.subst.specs.RemainingSymbols.{AddsOccurrences, has_nonempty_image, remaining_group, remaining, HasListed, HaveSameResult};
 
 use crate::image_ranges::{ImageRanges, ImageTable};
 use entries::SymbolPlaces;
@@ -125,14 +125,16 @@ impl RemainingSymbols {
         &self.symbols
     }
 
-    /// Returns the symbols of an expression whose images are not empty, in order, or `None` if they are more than a quarter of
-    /// the expression.
+    /// Returns the symbols of an expression whose images are not empty, in order, or `None` if they
+    /// are more than a quarter of the expression.
     ///
-    /// Substitution gives the same result for these symbols as for the whole expression. The contract always allows `None`:
-    /// the caller then goes over the whole expression, which only costs more.
+    /// Substitution gives the same result for these symbols as for the whole expression. The
+    /// contract always allows `None`: the caller then goes over the whole expression, which only
+    /// costs more.
     ///
     /// Errors: an allocation fails.
-    /// Cost: a look-up for each distinct symbol of the expression, and t log t for the t symbols that are returned.
+    /// Cost: a look-up for each distinct symbol of the expression, and t log t for the t symbols
+    /// that are returned.
     /// Source: Metamath, 4.2.6: the image of a variable may be the empty sequence of symbols.
     pub fn find_nonempty<'a>(
         &'a mut self,
@@ -178,10 +180,11 @@ fn symbol_at(expr: &[u32], index: u32) -> Option<u32>
     expr.get(index as usize).copied()
 }
 
-/// Returns the index of the first symbol from `from` on whose image is not empty, or the number of symbols if there is none.
+/// Returns the index of the first symbol from `from` on whose image is not empty, or the number of
+/// symbols if there is none.
 ///
-/// It is a function of its own so that the loop keeps all it needs in registers: the speed of a citation with many empty
-/// images depends on it.
+/// It is a function of its own so that the loop keeps all it needs in registers: the speed of a
+/// citation with many empty images depends on it.
 #[inline(never)]
 fn next_nonempty(images: &ImageTable<'_>, symbols: &[u32], from: usize) -> usize
     requires { from ≤ length symbols.now }
@@ -197,8 +200,8 @@ fn next_nonempty(images: &ImageTable<'_>, symbols: &[u32], from: usize) -> usize
     symbols.len()
 }
 
-/// Collects the indexes of the symbols whose images are not empty, group by group, or returns `false` if they are more than a
-/// quarter of the expression.
+/// Collects the indexes of the symbols whose images are not empty, group by group, or returns
+/// `false` if they are more than a quarter of the expression.
 fn collect_indexes(
     indexes: &mut Vec<u32>,
     images: &ImageTable<'_>,
@@ -246,8 +249,8 @@ fn copy_symbols_at(symbols: &mut Vec<u32>, expr: &[u32], indexes: &[u32]) -> Res
     Ok(())
 }
 
-/// Adds the indexes of the occurrences of each of the symbols, or returns `false` if there would be more than `most`
-/// indexes.
+/// Adds the indexes of the occurrences of each of the symbols, or returns `false` if there would be
+/// more than `most` indexes.
 fn add_groups(
     indexes: &mut Vec<u32>,
     places: &SymbolPlaces,
@@ -255,7 +258,7 @@ fn add_groups(
     most: usize,
 ) -> Result<bool, AllocError>
     requires { (expr : List ℕ) × ArePlacesOf expr places.now }
-    ensures { IfOk result (λ few. IsTrue few → (expr : List ℕ) → ArePlacesOf expr places.now → (i : ℕ) → list_any (λ j. i == j) indexes.new.items ≡ (list_any (λ j. i == j) indexes.old.items || is_among symbols.now (slice_get expr i))) }
+    ensures { IfOk result (λ few. IsTrue few → AddsOccurrences places.now symbols.now indexes.old.items indexes.new.items) }
 {
     for symbol in symbols {
         let group = places.group(*symbol);

@@ -24,7 +24,8 @@ pub struct MetSymbol {
 
 /// The variables of one proof, each at a place: 0, 1, 2 and so on, as they are met.
 ///
-/// A hint gives the index that a symbol may have among those met, so no table by symbol is cleared between proofs.
+/// A hint gives the index that a symbol may have among those met, so no table by symbol is cleared
+/// between proofs.
 #[derive(Drop)]
 pub struct VariablePlaces {
     /// The index that a symbol may have in `symbols`.
@@ -87,9 +88,11 @@ impl VariablePlaces {
         }
     }
 
-    /// Returns the place of a symbol, or `None` if it is no variable. A variable that was not met before gets the next place.
+    /// Returns the place of a symbol, or `None` if it is no variable. A variable that was not met
+    /// before gets the next place.
     ///
-    /// Errors: an allocation fails. Cost: constant; for a symbol that was not met before, that of `Pairs::variable`.
+    /// Errors: an allocation fails. Cost: constant; for a symbol that was not met before, that of
+    /// `Pairs::variable`.
     #[inline(always)]
     pub fn place_of(&mut self, pairs: &Pairs<'_>, symbol: u32) -> Result<Option<u32>, AllocError>
         requires placed { ArePlaced pairs.now self.old }
@@ -139,7 +142,8 @@ impl VariablePlaces {
         Ok(Some(place))
     }
 
-    /// Returns the places of the variables among the symbols, as bits, or `None` if a place is not below 64.
+    /// Returns the places of the variables among the symbols, as bits, or `None` if a place is not
+    /// below 64.
     ///
     /// Errors: an allocation fails. Cost: that of `place_of` for each symbol.
     #[inline(always)]
@@ -167,7 +171,8 @@ impl VariablePlaces {
 
     /// Returns the places below 64 of the variables in a list, as bits, each variable once.
     ///
-    /// Errors: an allocation fails. Cost: the square of the number of symbols, and that of `place_of` for each.
+    /// Errors: an allocation fails. Cost: the square of the number of symbols, and that of
+    /// `place_of` for each.
     pub fn first_word_bits_of_list(
         &mut self,
         pairs: &Pairs<'_>,

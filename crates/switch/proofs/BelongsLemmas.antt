@@ -53,7 +53,8 @@ module _ {V : Type 0} (size : V → ℕ) (old : SwitchView V) where
   }
 
   module _ (w : World V) (was : world_of size old ≡ Ok w) where
-    -- if the log of node j in w is a prefix of that in x, each prefix of it remains one in a history that leads to x
+    -- if the log of node j in w is a prefix of that in x, each prefix of it remains one in a
+    -- history that leads to x
     longer_stays : (new : SwitchView V) (x : World V) → world_of size new ≡ Ok x → length new.stores ≡ length old.stores → (j : ℕ) (entries : List (Option V)) → IsPrefixOf (log w j) (log x j) → IsLogPrefix size old j entries → IsLogPrefix size new j entries
     longer_stays new x is count j entries grows h = record {
       node = subst (λ (n : ℕ). j < n) (sym count) h.node;
@@ -143,7 +144,8 @@ module _ {V : Type 0} (size : V → ℕ) (old : SwitchView V) (w : World V) (was
         let view = view_there size old w was stores of.k of.there in
         takes_logs e x happened of.k view.0 result (effect.taken x happened of.k of.node view.0 view.1)
 
-  -- if the event that node j owes is taken, the log of each other node is a prefix of the one after it
+  -- if the event that node j owes is taken, the log of each other node is a prefix of the one after
+  -- it
   owed_goes_on : (j : ℕ) (e : Option (Event V)) → ((ev : Event V) → e ≡ Some ev → node_of w ev ≡ Some j) → (m : World V) → IsAfter size old.weights (old.history ++ pending_events e) m → (k : ℕ) → k ≢ j → IsPrefixOf (log w k) (log m k)
   owed_goes_on j None pending m is k other =
       let both : Ok w ≡ Ok m = sym was ∙ ap (λ (es : List (Event V)). world_of size (record { weights = old.weights; history = es; stores = old.stores })) (sym (append-nil old.history)) ∙ is in
@@ -154,7 +156,8 @@ module _ {V : Type 0} (size : V → ℕ) (old : SwitchView V) (w : World V) (was
       let not : ev ≢ Restart k = λ same. (let both : Some j ≡ Some k = sym (pending ev refl) ∙ ap (λ (e : Event V). node_of w e) same in let number : j ≡ k = cc in other (sym number)) in
       log_goes_on size w ev m happened k not
 
-  -- a restart of a node that is down keeps the logs, whether it takes the pending event first or finds no memory or a failing keep
+  -- a restart of a node that is down keeps the logs, whether it takes the pending event first or
+  -- finds no memory or a failing keep
   recovered_logs : (j : ℕ) (view : StoreView V) (e : Option (Event V)) → ((ev : Event V) → e ≡ Some ev → node_of w ev ≡ Some j) → (r : Result ℕ StepFault) → IsRecoveryOutcome size w old new j view e r → EventKeepsPrefixes size (Restart j) old new r
   recovered_logs j view e pending (Ok count) h = record {
     others = λ k entries other b.

@@ -19,7 +19,8 @@ module _ {V : Type 0} (size : V → ℕ) (net : NetView V) (stores : List (Store
   abbrev old : SwitchView V
   old = switch_view net stores
 
-  -- a fact of the view and the world of the fields holds of every world after the history of the view
+  -- a fact of the view and the world of the fields holds of every world after the history of the
+  -- view
   pub of_world : (P : SwitchView V → World V → Type 0) → P old w → ForOk (world_of size now) (λ x. P now x)
   of_world P p = λ x d.
       let both : Ok w ≡ Ok x = sym h.world.is_after ∙ ap (λ (s : SwitchView V). world_of size s) seen ∙ d in
@@ -58,7 +59,8 @@ module _ {V : Type 0} (size : V → ℕ) (net : NetView V) (stores : List (Store
       let cores = length-nodes_of net.cores in
       omega (arith, low, count, nodes, cores))
 
-  -- if the record of a keep fits its node, it also fits by the change that the world gives for the pending event
+  -- if the record of a keep fits its node, it also fits by the change that the world gives for the
+  -- pending event
   record_in : (n : Node V) (k : ℕ) (s : Status (StagedEvent V)) (kept : KeptPart V) → IsRecordOf n s kept → IsPendingStaged size net k s → IsRecordIn size w n (status_view s) kept
   record_in n k up kept fits pending_staged = fits
   record_in n k (down None) kept fits pending_staged = fits
@@ -83,7 +85,8 @@ module _ {V : Type 0} (size : V → ℕ) (net : NetView V) (stores : List (Store
   -- An event that was not readied.
 
   module _ (e : Event V) (fault : StepFault) (r : Result (StagedEvent V) StepFault) (is_err : r ≡ Err fault) (new : SwitchView V) (same : new ≡ old) where
-    -- if the answer is the fault that the event meets, or Memory if it meets none, the answer is right at a node that is up
+    -- if the answer is the fault that the event meets, or Memory if it meets none, the answer is
+    -- right at a node that is up
     not_ready : (x : Result (World V) StepFault) → event_result size w e ≡ x → IfErr x (λ met. r ≡ Err met) → OnOk x (IsOkUnless r Memory) → IsEffectUnlessDown size w old new e (Err fault)
     not_ready (Err met) happened refused memory =
         let both : Err met ≡ Err fault = sym refused ∙ is_err in
@@ -127,7 +130,8 @@ module _ {V : Type 0} (size : V → ℕ) (net : NetView V) (stores : List (Store
       pub kept_up : store.kept ≡ kept_of d.core.node
       kept_up = subst (λ (s : Status (StagedEvent V)). IsRecordOf d.core.node s store.kept) is_up (h.each d1.at d.core.node store (node_is size net stores h d1 d) is).fits
 
-      -- if the event is taken at the node, view and world of the step, its answer is right at a node that is up
+      -- if the event is taken at the node, view and world of the step, its answer is right at a
+      -- node that is up
       told : (new : SwitchView V) (result : Result ℕ StepFault) → IsOutcomeAt old new e d1.at (view_of store) (change_in d1.work) (after_step w d1.at step) result → IsEffectUnlessDown size w old new e result
       told new result takes = record {
         refused = λ fault f. let no : Ok (after_step w d1.at step) ≡ Err fault = sym happens_e ∙ f in cc;

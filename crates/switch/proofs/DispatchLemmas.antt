@@ -1,4 +1,5 @@
--- The count of nodes, the dispatch of an event by its node, and a call in terms of the variables of its function.
+-- The count of nodes, the dispatch of an event by its node, and a call in terms of the variables of
+-- its function.
 use Rattle.switch.proofs.Words.{◌≡◌, ℕ, ◌<◌, Bool, true, false, List, length, get_or, set, slice_get, Option, Some, Result, Ok, Err, refl, ap, sym, ◌∙◌, subst, arith, ForOk, slice_get_within, slice_get_read, Change, changed_by, kept_of, MAX_EVENTS, Event, Offer, Begin, Deliver, Restart, StepFault, Device, Down, World, packets_after, History, world_of_taken, node_of, StagedEvent, NetView, IsStaged, ChangesOnlyCapacity, IsTaken, change_in, count_shown, up, down, StoreState, Fails, pending_change, SwitchView, pending_event, IsPendingStaged, IsSwitch, world_of, is_down_at, pending_on_failure, IsEffectUnlessDown, IsEffectAtDownNode, IsEffect}
 use Rattle.switch.proofs.StoresLemmas.{count_views}
 use Rattle.switch.proofs.SwitchLemmas.{switch_view, still_switch}
@@ -38,7 +39,8 @@ refused_down size now (Begin k) is = λ x d. (refl, refl)
 refused_down size now (Deliver number) is = λ x d. (refl, refl)
 refused_down size now (Restart k) is = cc
 
--- A call in terms of the variables of its function: the event was readied, and the store is found by its number.
+-- A call in terms of the variables of its function: the event was readied, and the store is found
+-- by its number.
 
 module _ {V : Type 0} (size : V → ℕ) (a b : NetView V) (only_capacity : ChangesOnlyCapacity a b) (stores : List (StoreState V)) (h : IsSwitch size a stores) (now : SwitchView V) (seen : switch_view a stores ≡ now) (d1 : StagedEvent V) (d : IsStaged size b d1) (k : ℕ) (is_at : k ≡ d1.at) where
   -- the readied net and the stores are a switch
@@ -70,7 +72,8 @@ module _ {V : Type 0} (size : V → ℕ) (a b : NetView V) (only_capacity : Chan
     pub kept_is : store.kept ≡ kept_of d.core.node
     kept_is = kept_up size b stores hb now seen_b d1 d low e is_e store found is_up
 
-    -- if a call of the keep failed, the net and the stores are still a switch, and Device is the right answer
+    -- if a call of the keep failed, the net and the stores are still a switch, and Device is the
+    -- right answer
     pub call_failed : (o : Option (StagedEvent V)) (change : Option (Change V)) → change ≡ change_in d1.work → pending_change o ≡ change → pending_event o ≡ pending_on_failure e → IsPendingStaged size b d1.at (down o) → (new : StoreState V) → Fails store change (down o) new
         → IsSwitch size b (set stores k new) × ForOk (world_of size now) (λ x. IsEffectUnlessDown size x now (switch_view b (set stores k new)) e (Err Device))
     call_failed o change is_change owes is_staged pending_staged new fails =
@@ -79,7 +82,8 @@ module _ {V : Type 0} (size : V → ℕ) (a b : NetView V) (only_capacity : Chan
           failed_acts size b stores hb now seen_b d1 d low e is_e store found is_up o change is_change owes is_staged pending_staged new fails,
         )
 
-    -- if the keep made the change and the event was taken, the net and the stores are a switch, and the count of packets is the right answer
+    -- if the keep made the change and the event was taken, the net and the stores are a switch, and
+    -- the count of packets is the right answer
     pub call_played : (new : StoreState V) → new ≡ record { kept = changed_by store.kept (change_in d1.work); failures = store.failures; status = store.status } → (c : NetView V) → IsTaken b c d1 → (count : ℕ) → count ≡ length (packets_after (world_of_taken size c.history))
         → IsSwitch size c (set stores k new) × ForOk (world_of size now) (λ x. IsEffectUnlessDown size x now (switch_view c (set stores k new)) e (Ok count))
     call_played new stored c t count counted =

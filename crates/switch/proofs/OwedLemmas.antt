@@ -1,4 +1,5 @@
--- The event that a node owes while it is down: it can be taken, and then the net and the stores are a switch.
+-- The event that a node owes while it is down: it can be taken, and then the net and the stores are
+-- a switch.
 use Rattle.switch.proofs.Words.{◌≡◌, ℕ, ◌+◌, ◌<◌, ◌≤◌, List, ◌++◌, length, set, slice_get, Option, Some, None, refl, ap, sym, ◌∙◌, subst, arith, changed_by, Node, kept_of, MAX_EVENTS, World, History, StagedEvent, NetView, HasSpareCapacity, step_of, Status, up, down, StoreState, pending_change, pending_posts, IsRecordOf, pending_event, IsPendingStaged, IsSwitch, CanCommitPending, CommitsPending, change_of_pending, pending_events, append-nil}
 use Rattle.switch.proofs.KeepLemmas.{with_either}
 use Rattle.switch.proofs.SwitchLemmas.{other_store, node_is, committed, change_told, changes}
@@ -23,7 +24,8 @@ module _ {V : Type 0} (size : V → ℕ) (net : NetView V) (stores : List (Store
     )
 
   module _ (n : Node V) (store new : StoreState V) (node_k : slice_get w.nodes k ≡ Some n) (found : slice_get stores k ≡ Some store) (new_up : new.status ≡ up) (room : length net.history.events + 2 ≤ MAX_EVENTS) (m : NetView V) where
-    -- once the keep has made its change and the pending event is taken, the net and the stores are a switch, and the net has the event and its posts
+    -- once the keep has made its change and the pending event is taken, the net and the stores are
+    -- a switch, and the net has the event and its posts
     pub owed_taken : (p : Option (StagedEvent V)) → IsPendingStaged size net k (down p) → IsRecordOf n (down p) store.kept → new.kept ≡ changed_by store.kept (pending_change p) → CommitsPending net m p
         → (switch : IsSwitch size m (set stores k new)) × (m.history.weights ≡ net.history.weights) × (m.history.events ≡ net.history.events ++ pending_events (pending_event p)) × (m.packets ≡ net.packets ++ pending_posts p)
         × (net.packet_capacity ≤ m.packet_capacity) × (net.event_capacity ≤ m.event_capacity)

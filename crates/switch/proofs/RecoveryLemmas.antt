@@ -56,7 +56,8 @@ module _ {V : Type 0} (size : V → ℕ) (net : NetView V) (stores : List (Store
   pending_staged : IsPendingStaged size net k (down o)
   pending_staged = subst (λ (s : Status (StagedEvent V)). IsPendingStaged size net k s) is_down.1 own.pending_staged
 
-  -- if the restart recovers the node in the view of this store, it does so in the view of the switch
+  -- if the restart recovers the node in the view of this store, it does so in the view of the
+  -- switch
   of_view : (new : SwitchView V) (result : Result ℕ StepFault) → IsRecoveryOutcome size w old new j (view_of store) (pending_event o) result
       → ForOk (world_of size now) (λ x. (view : StoreView V) → slice_get now.stores j ≡ Some view → (e : Option (Event V)) → view.status ≡ down e → IsEffectOfRecovery size x now new j view e result)
   of_view new result recovers = of_world size net stores h now seen (λ s x. (view : StoreView V) → slice_get s.stores j ≡ Some view → (e : Option (Event V)) → view.status ≡ down e → IsEffectOfRecovery size x s new j view e result)

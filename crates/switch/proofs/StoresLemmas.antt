@@ -35,7 +35,8 @@ same_at [] k x y low is other = absurd (omega arith)
 same_at (z ∷ xs) zero x y low is other = is ∙ sym other
 same_at (z ∷ xs) (suc k) x y low is other = same_at xs k x y (le_of_suc-le-suc low) is other
 
--- If a fact holds of the changed store and its node, and of all others, it holds of each node and its store after the change.
+-- If a fact holds of the changed store and its node, and of all others, it holds of each node and
+-- its store after the change.
 pub each_after : {V : Type 0} (nodes : List (Node V)) (stores : List (StoreState V)) (P : ℕ → Node V → StoreState V → Type 0) (k : ℕ) (store new : StoreState V) → slice_get stores k ≡ Some store
     → ((m : Node V) → slice_get nodes k ≡ Some m → P k m new) → ((j : ℕ) (m : Node V) (s : StoreState V) → k ≢ j → slice_get nodes j ≡ Some m → slice_get stores j ≡ Some s → P j m s)
     → (j : ℕ) (m : Node V) (s : StoreState V) → slice_get nodes j ≡ Some m → slice_get (set stores k new) j ≡ Some s → P j m s

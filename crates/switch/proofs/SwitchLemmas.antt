@@ -174,7 +174,8 @@ module _ {V : Type 0} (size : V → ℕ) (net : NetView V) (stores : List (Store
             (makes size net.history net.cores net.packets h.world low staged.event staged.at t.core step at.event_result b.packets node_then posts_are
             (subst (λ (ps : List (Packet V)). AllByRecursion (IsPost (length net.history.weights)) ps) (sym t.packets) (all_append (IsPost (length net.history.weights)) net.packets (posts_of staged.work) h.world.posts d.posts))))
 
-        -- the nodes of that world are those before, with the one that took the event as the step leaves it
+        -- the nodes of that world are those before, with the one that took the event as the step
+        -- leaves it
         nodes_then : taken_world.world.nodes ≡ set w.nodes staged.at step.node
         nodes_then = taken_world.nodes ∙ ap (λ (cs : List (Core V)). nodes_of cs) t.cores ∙ nodes_of-set net.cores staged.at t.core
             ∙ ap (λ (n : Node V). set (nodes_of net.cores) staged.at n) node_then ∙ ap (λ (ns : List (Node V)). set ns staged.at step.node) (sym h.world.nodes)

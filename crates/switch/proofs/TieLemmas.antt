@@ -46,7 +46,8 @@ module _ {V : Type 0} (size : V → ℕ) (net : NetView V) (stores : List (Store
       let n = node_there size net stores h now seen k store some in
       owed_own k store.status (h.each k n.0 store n.1 some).pending_staged e (ap (λ (p : StoreView V). p.status) same ∙ stands)
 
-  -- if an answer is right in the world after the history, the call plays the event and keeps the logs
+  -- if an answer is right in the world after the history, the call plays the event and keeps the
+  -- logs
   call_plays : (e : Event V) (new : SwitchView V) (result : Result ℕ StepFault) → ForOk (world_of size now) (λ x. IsEffect size x now new e result) → Plays size now new e result × EventKeepsPrefixes size e now new result
   call_plays e new result effect =
       let was = after_is size net stores h now seen in

@@ -1,4 +1,5 @@
--- The names used in the proofs of this crate, with lemmas of std and of the layers below, re-exported from one place.
+-- The names used in the proofs of this crate, with lemmas of std and of the layers below,
+-- re-exported from one place.
 pub use Rattle.net.proofs.Beginnings.{then_begins}
 pub use Rattle.net.proofs.EventsStaged.{comes_restart, staged_still, nodes_found, nodes_still}
 pub use Rattle.net.proofs.EveryEvent.{IfTaken, holds_after, if_taken, node_at, spent_or}

@@ -1,7 +1,10 @@
--- The store of a node: the record of its keep, and whether the node is up, or down since a call of its keep failed.
--- Source: Lamport, Paxos Made Simple, section 2.5: an acceptor records its response in stable storage before sending it.
--- The code has the keep itself. Contracts see the record that the keep would load, how many of its calls failed, and
--- whether the node is up or down, with the pending event (the one whose store failed), if there is one.
+-- The store of a node: the record of its keep, and whether the node is up, or down since a call of
+-- its keep failed.
+-- Source: Lamport, Paxos Made Simple, section 2.5: an acceptor records its response in stable
+-- storage before sending it.
+-- The code has the keep itself. Contracts see the record that the keep would load, how many of its
+-- calls failed, and whether the node is up or down, with the pending event (the one whose store
+-- failed), if there is one.
 use Rattle.std.specs.Prelude.{◌≡◌, ◌⊎◌, ◌+◌, ℕ, List, [], Option, Some, None}
 use Rattle.switch.specs.Words.{Packet, Change, KeptPart, changed_by, Node, kept_of, StagedEvent, change_in, posts_of}
 use Rattle.switch.specs.declared.node_store.Status.{Status as RustStatus}
@@ -16,7 +19,8 @@ abbrev pub status_of : {V : Type 0} → RustStatus V → Status (StagedEvent V)
 status_of Up = up
 status_of (Down pending) = down pending
 
--- the view of a `NodeStore`, with the pending event as it was staged; `StoreView` of `Switch` has the event alone
+-- the view of a `NodeStore`, with the pending event as it was staged; `StoreView` of `Switch` has
+-- the event alone
 pub record StoreState (V : Type 0) : Type 0 where
   pub kept : KeptPart V  -- the record that the keep would load
   pub failures : ℕ  -- how many calls of the keep failed
@@ -36,8 +40,16 @@ abbrev pub pending_posts : {V : Type 0} → Option (StagedEvent V) → List (Pac
 pending_posts None = []
 pending_posts (Some staged) = posts_of staged.work
 
--- The record of the keep is the kept part of the node; while the node is down, the record may instead be that kept part
--- with the change of the pending event made.
+-- the store once its keep has made the change
+abbrev pub with_change : {V : Type 0} → StoreState V → Option (Change V) → StoreState V
+with_change store change = record { kept = changed_by store.kept change; failures = store.failures; status = store.status }
+
+-- the store once its keep has made the change of the pending event, if there is one
+abbrev pub with_pending_change : {V : Type 0} → StoreState V → StoreState V
+with_pending_change store = with_change store (pending_change (pending_of store.status))
+
+-- The record of the keep is the kept part of the node; while the node is down, the record may
+-- instead be that kept part with the change of the pending event made.
 
 -- the old record, or the old record with the change
 abbrev pub IsWithOrWithout : {V : Type 0} → KeptPart V → Option (Change V) → KeptPart V → Type 0

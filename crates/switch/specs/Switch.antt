@@ -1,14 +1,18 @@
--- The switch that the nodes of a cluster share: its history, and for each node the record of its keep and whether it is up.
--- Source: Lamport, Paxos Made Simple, section 3; that a node is down after a failed store or load is this project's choice.
--- The code has a net and the keeps; by the invariant of the type, the state of the net is that of the world after the history.
-use Rattle.std.specs.Prelude.{◌≡◌, ◌⊎◌, ◌+◌, ◌≤◌, ◌<◌, ℕ, Bool, true, false, List, [], ◌∷◌, ◌++◌, Option, Some, None, Result, Ok, Err, length, slice_get, slice_set}
-use Rattle.switch.specs.Words.{Change, KeptPart, changed_by, new_kept, Node, kept_of, MAX_EVENTS, Event, Offer, Begin, Deliver, Restart, StepFault, Memory, Device, Down, EventsSpent, World, event_result, after, IsAfter, AreOfWorld, node_of, change_of, kept_part, StagedEvent, NetView, IsStaged, HasSpareCapacity, IsTaken, posts_of}
+-- The switch that the nodes of a cluster share: its history, and for each node the record of its
+-- keep and whether it is up.
+-- Source: Lamport, Paxos Made Simple, section 3; that a node is down after a failed store or load
+-- is this project's choice.
+-- The code has a net and the keeps; by the invariant of the type, the state of the net is that of
+-- the world after the history.
+use Rattle.std.specs.Prelude.{◌≡◌, ◌⊎◌, ◌+◌, ◌≤◌, ◌<◌, ℕ, Bool, true, false, List, [], ◌∷◌, ◌++◌, Option, Some, None, Result, Ok, Err, MatchResult, length, slice_get, slice_set}
+use Rattle.std.specs.Borrow.{Bor}
+use Rattle.switch.specs.Words.{Packet, Change, KeptPart, changed_by, new_kept, Node, kept_of, MAX_EVENTS, Event, Offer, Begin, Deliver, Restart, StepFault, Memory, Device, Down, EventsSpent, NoPacket, World, event_result, after, IsAfter, AreOfWorld, node_of, change_of, kept_part, StagedEvent, NetView, IsStaged, HasSpareCapacity, IsTaken, posts_of}
 use Rattle.switch.specs.NodeStore.{Status, up, down, StoreState, IsRecordOf, IsWithOrWithout}
 
 -- The switch as contracts see it.
 
--- the store of a node: the record that its keep would load, how many calls of the keep failed, and its status: up, or down
--- with the pending event, if there is one
+-- the store of a node: the record that its keep would load, how many calls of the keep failed, and
+-- its status: up, or down with the pending event, if there is one
 pub record StoreView (V : Type 0) : Type 0 where
   pub kept : KeptPart V
   pub failures : ℕ
@@ -34,7 +38,8 @@ abbrev pub views_of : {V : Type 0} → List (StoreState V) → List (StoreView V
 views_of [] = []
 views_of (store ∷ stores) = view_of store ∷ views_of stores
 
--- the stores of new nodes as contracts see them, with these keeps; `failures` counts the failed calls of a keep
+-- the stores of new nodes as contracts see them, with these keeps; `failures` counts the failed
+-- calls of a keep
 abbrev pub new_views : {V K : Type 0} → (K → ℕ) → List K → List (StoreView V)
 new_views failures [] = []
 new_views failures (keep ∷ keeps) = record { kept = new_kept; failures = failures keep; status = up } ∷ new_views failures keeps
@@ -69,13 +74,18 @@ pub record IsSwitch {V : Type 0} (size : V → ℕ) (net : NetView V) (stores : 
 abbrev pub world_of : {V : Type 0} → (V → ℕ) → SwitchView V → Result (World V) StepFault
 world_of size switch = after size switch.weights switch.history
 
+-- the result is the packet with this number, counted from 0 in the order of posting, or NoPacket if
+-- there is none
+abbrev pub IsPacketResult : {V : Type 0} → World V → ℕ → Result (Bor (Packet V)) StepFault → Type 0
+IsPacketResult w number result = MatchResult result (λ packet. slice_get w.packets number ≡ Some packet.now) (λ fault. (slice_get w.packets number ≡ None) × (fault ≡ NoPacket))
+
 -- the change that the pending event makes in a world
 abbrev pub change_of_pending : {V : Type 0} → (V → ℕ) → World V → Option (Event V) → Option (Change V)
 change_of_pending size w None = None
 change_of_pending size w (Some e) = change_of size w e
 
--- the record of the keep is the kept part of its node; while the node is down, the record may instead be that kept part
--- with the change of the pending event made
+-- the record of the keep is the kept part of its node; while the node is down, the record may
+-- instead be that kept part with the change of the pending event made
 abbrev pub IsRecordIn : {V : Type 0} → (V → ℕ) → World V → Node V → Status (Event V) → KeptPart V → Type 0
 IsRecordIn size w n up kept = kept ≡ kept_of n
 IsRecordIn size w n (down e) kept = IsWithOrWithout (kept_of n) (change_of_pending size w e) kept
@@ -118,30 +128,33 @@ abbrev pub with_event : {V : Type 0} → SwitchView V → ℕ → StoreView V �
 with_event old k view change e =
     record (with_store old k record { kept = changed_by view.kept change; failures = view.failures; status = view.status }) { history = old.history ++ e ∷ [] }
 
--- the event that is pending if the keep of a node that is up fails at this event; none for a restart, which stores nothing
--- at such a node
+-- the event that is pending if the keep of a node that is up fails at this event; none for a
+-- restart, which stores nothing at such a node
 abbrev pub pending_on_failure : {V : Type 0} → Event V → Option (Event V)
 pending_on_failure (Offer k v) = Some (Offer k v)
 pending_on_failure (Begin k) = Some (Begin k)
 pending_on_failure (Deliver number) = Some (Deliver number)
 pending_on_failure (Restart k) = None
 
--- a call of the keep of node k failed: the count of its failures grows by one, the record is the old one or has the change, the
--- node has this status, and nothing else changes
+-- a call of the keep of node k failed: the count of its failures grows by one, the record is the
+-- old one or has the change, the node has this status, and nothing else changes
 pub record FailsAt {V : Type 0} (old new : SwitchView V) (k : ℕ) (view : StoreView V) (change : Option (Change V)) (status_after : Status (Event V)) : Type 0 where
   pub kept : KeptPart V
   pub either : IsWithOrWithout view.kept change kept
   pub rest : new ≡ with_store old k record { kept = kept; failures = view.failures + 1; status = status_after }
 
--- an event that meets no fault is taken, and x is the world after it; or an allocation failed, or the keep failed
+-- an event that meets no fault is taken, and x is the world after it; or an allocation failed, or
+-- the keep failed
 abbrev pub IsOutcomeAt : {V : Type 0} → SwitchView V → SwitchView V → Event V → ℕ → StoreView V → Option (Change V) → World V → Result ℕ StepFault → Type 0
 IsOutcomeAt old new e k view change x (Ok count) = (new ≡ with_event old k view change e) × (count ≡ length x.packets)
 IsOutcomeAt old new e k view change x (Err fault) = ((fault ≡ Memory) × (new ≡ old)) ⊎ ((fault ≡ Device) × FailsAt old new k view change (down (pending_on_failure e)))
 
--- the effect of an event whose node is up, or that has no node; w is the world after the old history
+-- the effect of an event whose node is up, or that has no node; w is the world after the old
+-- history
 pub record IsEffectUnlessDown {V : Type 0} (size : V → ℕ) (w : World V) (old new : SwitchView V) (e : Event V) (result : Result ℕ StepFault) : Type 0 where
   pub refused : (fault : StepFault) → event_result size w e ≡ Err fault → Refuses old new result fault
-  pub taken : (x : World V) → event_result size w e ≡ Ok x → (k : ℕ) → node_of w e ≡ Some k → (view : StoreView V) → slice_get old.stores k ≡ Some view → IsOutcomeAt old new e k view (change_of size w e) x result
+  pub taken : (x : World V) → event_result size w e ≡ Ok x → (k : ℕ) → node_of w e ≡ Some k → (view : StoreView V)
+      → slice_get old.stores k ≡ Some view → IsOutcomeAt old new e k view (change_of size w e) x result
 
 -- Restarts of a node that is down.
 
@@ -149,7 +162,8 @@ abbrev pub pending_events : {V : Type 0} → Option (Event V) → List (Event V)
 pending_events None = []
 pending_events (Some e) = e ∷ []
 
--- node k is up again with the record that its keep loaded: the pending event, if there is one, and then the restart are taken
+-- node k is up again with the record that its keep loaded: the pending event, if there is one, and
+-- then the restart are taken
 pub record IsRecovered {V : Type 0} (size : V → ℕ) (old new : SwitchView V) (k : ℕ) (view : StoreView V) (e : Option (Event V)) (count : ℕ) : Type 0 where
   pub world : World V
   pub is_after : IsAfter size old.weights (old.history ++ pending_events e ++ Restart k ∷ []) world
@@ -177,20 +191,22 @@ pub record IsEffectOfRecovery {V : Type 0} (size : V → ℕ) (w : World V) (old
 
 -- Events in general.
 
--- the effect of an event whose node is down: a restart may bring it up again, and every other event is refused
+-- the effect of an event whose node is down: a restart may bring it up again, and every other event
+-- is refused
 abbrev pub IsEffectAtDownNode : {V : Type 0} → (V → ℕ) → World V → SwitchView V → SwitchView V → Event V → Result ℕ StepFault → Type 0
 IsEffectAtDownNode size w old new (Offer k v) result = Refuses old new result Down
 IsEffectAtDownNode size w old new (Begin k) result = Refuses old new result Down
 IsEffectAtDownNode size w old new (Deliver number) result = Refuses old new result Down
-IsEffectAtDownNode {V} size w old new (Restart k) result = (view : StoreView V) → slice_get old.stores k ≡ Some view → (e : Option (Event V)) → view.status ≡ down e → IsEffectOfRecovery size w old new k view e result
+IsEffectAtDownNode {V} size w old new (Restart k) result = (view : StoreView V) → slice_get old.stores k ≡ Some view
+    → (e : Option (Event V)) → view.status ≡ down e → IsEffectOfRecovery size w old new k view e result
 
 -- the effect of an event; w is the world after the old history
 pub record IsEffect {V : Type 0} (size : V → ℕ) (w : World V) (old new : SwitchView V) (e : Event V) (result : Result ℕ StepFault) : Type 0 where
   pub is_down : is_down_at old.stores (node_of w e) ≡ true → IsEffectAtDownNode size w old new e result
   pub is_up : is_down_at old.stores (node_of w e) ≡ false → IsEffectUnlessDown size w old new e result
 
--- no event of the old history meets a refusal; each node of the world after it has its store; and the event has its effect
--- in that world
+-- no event of the old history meets a refusal; each node of the world after it has its store; and
+-- the event has its effect in that world
 pub record Plays {V : Type 0} (size : V → ℕ) (old new : SwitchView V) (e : Event V) (result : Result ℕ StepFault) : Type 0 where
   pub world : World V
   pub is_after : world_of size old ≡ Ok world

@@ -1,4 +1,5 @@
--- The names of `net` and `synod` that the specifications of this crate use, re-exported from one module.
+-- The names of `net` and `synod` that the specifications of this crate use, re-exported from one
+-- module.
 pub use Rattle.net.specs.Agree.{IsAfter, IsPrefixOf}
 pub use Rattle.net.specs.Staged.{StagedEvent, HasSpareCapacity, IsStaged, IsTaken, NetView, change_in, posts_of}
 pub use Rattle.net.specs.KeptPart.{change_of, kept_part, node_of}
@@ -8,7 +9,7 @@ pub use Rattle.net.specs.declared.event.Event.{Event}
 pub use Rattle.net.specs.declared.event.Event.TheVariants.{Begin, Deliver, Offer, Restart}
 pub use Rattle.net.specs.declared.event.TheConstants.{MAX_EVENTS}
 pub use Rattle.net.specs.declared.fault.StepFault.{StepFault}
-pub use Rattle.net.specs.declared.fault.StepFault.TheVariants.{Device, Down, EventsSpent, Memory}
+pub use Rattle.net.specs.declared.fault.StepFault.TheVariants.{Device, Down, EventsSpent, Memory, NoPacket}
 pub use Rattle.synod.specs.Node.{Node, kept_of}
 pub use Rattle.synod.specs.Record.{KeptPart, changed_by, new_kept}
 pub use Rattle.synod.specs.declared.change.Change.{Change}

@@ -1,4 +1,5 @@
-//! Plays an event: takes it to its node, if that is up or is restarted. No other public call changes a switch.
+//! Plays an event: takes it to its node, if that is up or is restarted. No other public call
+//! changes a switch.
 ghost use Rattle.std.specs.Prelude.{◌≡◌, Some, false};
 ghost use Rattle.std.specs.Result.{ForOk};
 ghost use Rattle.net.specs.KeptPart.{node_of};
@@ -10,17 +11,19 @@ use net::{Event, StepFault};
 use synod::{Keep, Value};
 
 impl<V: Value, K: Keep<V>> Switch<V, K> {
-    /// Plays an event: its node stages it, stores its change and commits it. A restart starts from the record that the keep
-    /// loads; at a node that is down it first stores the change of the pending event and commits that event. Returns the number
-    /// of packets posted so far.
+    /// Plays an event: its node stages it, stores its change and commits it. A restart starts from
+    /// the record that the keep loads; at a node that is down it first stores the change of the
+    /// pending event and commits that event. Returns the number of packets posted so far.
     ///
-    /// Errors: `Down` if the node is down and the event is not a restart; else the first fault that the event meets, in the
-    /// order that the comment of `StepFault` lists; else `Memory`, with nothing changed, or `Device` if the node's keep
-    /// failed: the node is then down. A restart of a node that is down returns `EventsSpent` if fewer than two events are
-    /// left; after `Memory` or `Device` the node stays down.
+    /// Errors: `Down` if the node is down and the event is not a restart; else the first fault that
+    /// the event meets, in the order that the comment of `StepFault` lists; else `Memory`, with
+    /// nothing changed, or `Device` if the node's keep failed: the node is then down. A restart of
+    /// a node that is down returns `EventsSpent` if fewer than two events are left; after `Memory`
+    /// or `Device` the node stays down.
     ///
-    /// Cost: the step of the node, looking up one packet and storing one change; at a restart, loading the record once; at
-    /// the restart of a node that is down, also storing the pending change and committing the pending event.
+    /// Cost: the step of the node, looking up one packet and storing one change; at a restart,
+    /// loading the record once; at the restart of a node that is down, also storing the pending
+    /// change and committing the pending event.
     pub fn play(&mut self, event: Event<V>) -> Result<u64, StepFault>
         ensures plays { Plays V.bytes self.old self.new event result }
         ensures logs { EventKeepsPrefixes V.bytes event self.old self.new result }

@@ -1,8 +1,9 @@
-//! The store of a node: its keep, and whether the node is up, or down since a call of its keep failed.
+//! The store of a node: its keep, and whether the node is up, or down since a call of its keep
+//! failed.
 ghost use Rattle.std.specs.Prelude.{◌≡◌, ◌+◌, Ok, Some, None, length, IfOk, OnOk, OnErr, is_ok, if◌then◌else◌};
 ghost use Rattle.synod.specs.Record.{changed_by};
 ghost use Rattle.net.specs.Staged.{change_in, posts_of};
-ghost use Rattle.switch.specs.NodeStore.{Fails, IsWithOrWithout, pending_change, pending_of, pending_posts, status_of, up, down};
+ghost use Rattle.switch.specs.NodeStore.{Fails, IsWithOrWithout, pending_change, pending_of, pending_posts, status_of, up, down, with_change, with_pending_change};
 ghost use Rattle.switch.specs.Switch.{is_down, status_view};
 
 use net::StagedEvent;
@@ -54,10 +55,10 @@ impl<V: Value, K: Keep<V>> NodeStore<V, K> {
         }
     }
 
-    /// Stores the change of a staged event and returns the event. If the keep fails, the node is down and the event is
-    /// pending.
+    /// Stores the change of a staged event and returns the event. If the keep fails, the node is
+    /// down and the event is pending.
     pub fn store(&mut self, staged: StagedEvent<V>) -> Result<StagedEvent<V>, Failed>
-        ensures stored { OnOk result (self.new ≡ record { kept = changed_by self.old.kept (change_in staged.work); failures = self.old.failures; status = self.old.status }) }
+        ensures stored { OnOk result (self.new ≡ with_change self.old (change_in staged.work)) }
         ensures staged { IfOk result (λ same. same ≡ staged) }
         ensures failed { OnErr result (Fails self.old (change_in staged.work) (down (Some staged)) self.new) }
     {
@@ -70,8 +71,8 @@ impl<V: Value, K: Keep<V>> NodeStore<V, K> {
         }
     }
 
-    /// Loads the record of a node that is up. If the keep fails, the node is down and no event is pending. For a node that is
-    /// down there is `bring_up`; here its pending event would be lost.
+    /// Loads the record of a node that is up. If the keep fails, the node is down and no event is
+    /// pending. For a node that is down there is `bring_up`; here its pending event would be lost.
     pub fn load(&mut self) -> Result<Record<V>, Failed>
         ensures loaded { IfOk result (λ loaded. loaded.kept ≡ self.old.kept) }
         ensures same { OnOk result (self.new ≡ self.old) }
@@ -97,12 +98,13 @@ impl<V: Value, K: Keep<V>> NodeStore<V, K> {
         }
     }
 
-    /// Stores the change of the pending event, if there is one, loads the record, and marks the node as up. Returns the event
-    /// that was pending, and the record. If a call of the keep fails, the node stays down.
+    /// Stores the change of the pending event, if there is one, loads the record, and marks the
+    /// node as up. Returns the event that was pending, and the record. If a call of the keep fails,
+    /// the node stays down.
     pub fn bring_up(&mut self) -> Result<(Option<StagedEvent<V>>, Record<V>), Failed>
         ensures pending { IfOk result (λ parts. parts.0 ≡ pending_of self.old.status) }
-        ensures loaded { IfOk result (λ parts. parts.1.kept ≡ changed_by self.old.kept (pending_change (pending_of self.old.status))) }
-        ensures up { OnOk result (self.new ≡ record { kept = changed_by self.old.kept (pending_change (pending_of self.old.status)); failures = self.old.failures; status = up }) }
+        ensures loaded { IfOk result (λ parts. parts.1.kept ≡ (with_pending_change self.old).kept) }
+        ensures up { OnOk result (self.new ≡ record (with_pending_change self.old) { status = up }) }
         ensures failed { OnErr result (Fails self.old (pending_change (pending_of self.old.status)) self.old.status self.new) }
     {
         self.store_pending()?;
@@ -112,7 +114,7 @@ impl<V: Value, K: Keep<V>> NodeStore<V, K> {
 
     /// Stores the change of the pending event, if there is one.
     fn store_pending(&mut self) -> Result<(), Failed>
-        ensures stored { OnOk result (self.new ≡ record { kept = changed_by self.old.kept (pending_change (pending_of self.old.status)); failures = self.old.failures; status = self.old.status }) }
+        ensures stored { OnOk result (self.new ≡ with_pending_change self.old) }
         ensures failed { OnErr result (Fails self.old (pending_change (pending_of self.old.status)) self.old.status self.new) }
     {
         match &self.status {
@@ -125,7 +127,7 @@ impl<V: Value, K: Keep<V>> NodeStore<V, K> {
     /// Marks the node as up, and returns the event that was pending, if there was one.
     fn take_pending(&mut self) -> Option<StagedEvent<V>>
         ensures pending { result ≡ pending_of self.old.status }
-        ensures up { self.new ≡ record { kept = self.old.kept; failures = self.old.failures; status = up } }
+        ensures up { self.new ≡ record self.old { status = up } }
     {
         match mem::replace(&mut self.status, Status::Up) {
             Status::Down(pending) => pending,

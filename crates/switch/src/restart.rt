@@ -1,17 +1,16 @@
 //! Restarts a node of a switch.
-ghost use Rattle.std.specs.Prelude.{◌≡◌, Some, Option, true, false, slice_get};
+ghost use Rattle.std.specs.Prelude.{◌≡◌, Some, true, false};
 ghost use Rattle.std.specs.Result.{ForOk};
-ghost use Rattle.net.specs.declared.event.Event.{Event};
 ghost use Rattle.net.specs.declared.event.Event.TheVariants.{Restart};
-ghost use Rattle.switch.specs.NodeStore.{down};
-ghost use Rattle.switch.specs.Switch.{StoreView, is_down_at, world_of, IsEffectUnlessDown, IsEffectOfRecovery, CanCommitPending, CommitsPending};
+ghost use Rattle.switch.specs.Switch.{is_down_at, world_of, IsEffectUnlessDown, IsEffectAtDownNode, CanCommitPending, CommitsPending};
 
 use crate::switch::Switch;
 use net::{Event, MAX_EVENTS, Net, StagedEvent, StepFault};
 use synod::{Keep, Value};
 
 impl<V: Value, K: Keep<V>> Switch<V, K> {
-    /// Restarts a node that is up from the record that its keep loads, or returns `NoNode` if there is no such node.
+    /// Restarts a node that is up from the record that its keep loads, or returns `NoNode` if there
+    /// is no such node.
     pub(crate) fn restart_up(&mut self, k: u8) -> Result<u64, StepFault>
         requires { is_down_at self.old.stores (Some k) ≡ false }
         ensures { ForOk (world_of V.bytes self.old) (λ world. IsEffectUnlessDown V.bytes world self.old self.new (Restart k) result) }
@@ -23,10 +22,11 @@ impl<V: Value, K: Keep<V>> Switch<V, K> {
         Ok(self.net.commit(staged))
     }
 
-    /// Restarts a node that is down: stores the change of its pending event, and commits that event before the restart.
+    /// Restarts a node that is down: stores the change of its pending event, and commits that event
+    /// before the restart.
     pub(crate) fn restart_down(&mut self, k: u8) -> Result<u64, StepFault>
         requires { is_down_at self.old.stores (Some k) ≡ true }
-        ensures { ForOk (world_of V.bytes self.old) (λ world. (view : StoreView V) → slice_get self.old.stores k ≡ Some view → (e : Option (Event V)) → view.status ≡ down e → IsEffectOfRecovery V.bytes world self.old self.new k view e result) }
+        ensures { ForOk (world_of V.bytes self.old) (λ world. IsEffectAtDownNode V.bytes world self.old self.new (Restart k) result) }
     {
         if self.net.history().len() as u64 + 2 > MAX_EVENTS {
             return Err(StepFault::EventsSpent);

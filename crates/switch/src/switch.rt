@@ -1,14 +1,14 @@
 //! The switch: a net of nodes and packets, and the store of each node.
-ghost use Rattle.std.specs.Prelude.{◌≡◌, ◌<◌, ◌≤◌, Ok, Err, Some, None, [], length, slice_get, IsOk, IsSome, IfOk, IsOkUnless, MatchOption, MatchResult};
+ghost use Rattle.std.specs.Prelude.{◌≡◌, ◌<◌, ◌≤◌, Ok, Err, Some, None, [], length, IsOk, IsSome, IfOk, IsOkUnless};
 ghost use Rattle.std.specs.List.{AllByRecursion};
 ghost use Rattle.std.specs.Result.{ForOk};
 ghost use Rattle.slots.specs.declared.slots.TheConstants.{SLOTS};
 ghost use Rattle.synod.specs.Record.{new_kept};
 ghost use Rattle.net.specs.declared.event.TheConstants.{MAX_EVENTS};
-ghost use Rattle.net.specs.declared.fault.StepFault.TheVariants.{NoNode, NoPacket, Memory};
-ghost use Rattle.net.specs.World.{log_after};
+ghost use Rattle.net.specs.declared.fault.StepFault.TheVariants.{NoNode, Memory};
+ghost use Rattle.net.specs.World.{IsLogEntry};
 ghost use Rattle.net.specs.KeptPart.{node_of};
-ghost use Rattle.switch.specs.Switch.{AreStores, is_down_at, new_views, new_stores, world_of};
+ghost use Rattle.switch.specs.Switch.{AreStores, IsPacketResult, is_down_at, new_views, new_stores, world_of};
 
 use crate::node_store::NodeStore;
 use net::{Event, MAX_EVENTS, Net, StepFault};
@@ -16,9 +16,9 @@ use std::alloc::{AllocError, Global};
 use std::marker::Model;
 use synod::{Keep, Packet, Value, Weights};
 
-/// The nodes of one replicated log, their packets and their stores. Contracts see the weights, the history and, for each
-/// node, the record that its keep would load, how many calls of the keep failed, and whether the node is up, or down with
-/// the pending event, if there is one.
+/// The nodes of one replicated log, their packets and their stores. Contracts see the weights, the
+/// history and, for each node, the record that its keep would load, how many calls of the keep
+/// failed, and whether the node is up, or down with the pending event, if there is one.
 #[derive(Drop)]
 pub struct Switch<V: Value, K: Keep<V>> {
     pub(crate) net: Net<V>,
@@ -63,43 +63,46 @@ impl<V: Value, K: Keep<V>> Switch<V, K> {
         }
     }
 
-    /// Returns entry `slot` of the log of node `k`, if it has one, or `NoNode` if there is no such node. It does not
-    /// allocate.
+    /// Returns entry `slot` of the log of node `k`, if it has one, or `NoNode` if there is no such
+    /// node. It does not allocate.
     pub fn entry(&self, k: u8, slot: u32) -> Result<Option<&Option<V>>, StepFault>
-        ensures entry { IfOk result (λ found. MatchOption found (slice_get (log_after (world_of V.bytes self.now) k) slot ≡ None) (λ entry. slice_get (log_after (world_of V.bytes self.now) k) slot ≡ Some entry.now)) }
+        ensures entry { IfOk result (IsLogEntry (world_of V.bytes self.now) k slot) }
         ensures below { IfOk result (λ found. IsSome found → slot < SLOTS) }
         ensures no_node { length self.now.stores ≤ k → result ≡ Err NoNode }
         ensures node { k < length self.now.stores → IsOk result }
-        ensures taken { IsOk (world_of V.bytes self.now) }
+        ensures history_taken { IsOk (world_of V.bytes self.now) }
     {
         self.net.entry(k, slot)
     }
 
     /// Returns the events taken, in order.
     ///
-    /// The nodes and the packets are those of the world after these events. The record of each keep is the kept part of its
-    /// node; while the node is down, the record may instead be that kept part with the change of the pending event made.
+    /// The nodes and the packets are those of the world after these events. The record of each keep
+    /// is the kept part of its node; while the node is down, the record may instead be that kept
+    /// part with the change of the pending event made.
     pub fn history(&self) -> &[Event<V>]
         ensures history { result.now ≡ self.now.history }
         ensures few { length result.now ≤ MAX_EVENTS }
-        ensures taken { IsOk (world_of V.bytes self.now) }
+        ensures history_taken { IsOk (world_of V.bytes self.now) }
         ensures stores { ForOk (world_of V.bytes self.now) (λ world. AreStores V.bytes world self.now.stores) }
     {
         self.net.history()
     }
 
-    /// Returns the node of an event: for a delivery the receiver of the packet, or `None` if there is no such packet.
+    /// Returns the node of an event: for a delivery the receiver of the packet, or `None` if there
+    /// is no such packet.
     pub fn node_of(&self, event: &Event<V>) -> Option<u8>
         ensures node { ForOk (world_of V.bytes self.now) (λ world. result ≡ node_of world event.now) }
-        ensures taken { IsOk (world_of V.bytes self.now) }
+        ensures history_taken { IsOk (world_of V.bytes self.now) }
     {
         self.net.node_of(event)
     }
 
-    /// Returns the packet with a number, from 0 in the order of posting, or `NoPacket`. It does not allocate.
+    /// Returns the packet with a number, from 0 in the order of posting, or `NoPacket`. It does not
+    /// allocate.
     pub fn packet(&self, number: u64) -> Result<&Packet<V>, StepFault>
-        ensures taken { IsOk (world_of V.bytes self.now) }
-        ensures found { ForOk (world_of V.bytes self.now) (λ world. MatchResult result (λ packet. slice_get world.packets number ≡ Some packet.now) (λ fault. (slice_get world.packets number ≡ None) × (fault ≡ NoPacket))) }
+        ensures history_taken { IsOk (world_of V.bytes self.now) }
+        ensures found { ForOk (world_of V.bytes self.now) (λ world. IsPacketResult world number result) }
     {
         self.net.packet(number)
     }

@@ -1,4 +1,5 @@
--- An Accepted at a slot that is not learned: the sender is counted, and with a quorum the value is learned.
+-- An Accepted at a slot that is not learned: the sender is counted, and with a quorum the value is
+-- learned.
 use Rattle.synod.proofs.Words.{◌≡◌, ◌∙◌, ℕ, Bool, true, false, List, [], Option, Some, None, MatchOption, is_some, ap, sym, subst, if◌then◌else◌, entry_at, put_at, front_of, Ballot, Packet, Count, CountAndLearn, Learn, Result, IfOk, is_quorum, Node, StepResult, Core, ReadyView, IsReadyFor, unchanged, volatile_step, kept_of, has_voter, counted, learns_chosen, on_accepted_at, on_accepted, on_told_at, on_told, asks_below, asks_for, LearnerState, assembled, proposer_state, learner_state, with_learner_update}
 
 module _ {V : Type 0} (n : Node V) (p : ℕ) (b : Ballot) (s : ℕ) (v : Option V) (none : entry_at n.learned s ≡ None) where
@@ -15,7 +16,8 @@ module _ {V : Type 0} (n : Node V) (p : ℕ) (b : Ballot) (s : ℕ) (v : Option 
   pub is_counted : is_quorum n.weights (has_voter counting.tallies s b) ≡ false → on_accepted n p b s v ≡ volatile_step (with_learner_update n (Count s b p)) []
   is_counted quorum = tested false quorum
 
-  -- with a quorum the learner is updated with the choice, and the node asks for the gap below the slot, if there is one
+  -- with a quorum the learner is updated with the choice, and the node asks for the gap below the
+  -- slot, if there is one
   pub completes_quorum : is_quorum n.weights (has_voter counting.tallies s b) ≡ true → (gap : ℕ) → front_of (put_at n.learned s v) ≡ gap
       → on_accepted n p b s v ≡ volatile_step (with_learner_update n (CountAndLearn s b p v)) (asks_below n s gap)
   completes_quorum quorum gap front =
@@ -41,7 +43,8 @@ module _ {V : Type 0} (m n : Node V) (same : m ≡ n) (l : LearnerState V) (room
       ∙ is_counted m p b s v none (ap (λ (x : LearnerState V). is_quorum m.weights (has_voter (counted x.tallies s b p) s b)) (sym room) ∙ quorum)
       ∙ (λ i. volatile_step (with_learner_update (with_learner_state m (sym room i)) (Count s b p)) (sym no_posts i))
 
-  -- with a quorum the learner is updated with the choice of a copy of the value, and the node asks for the gap below, if there is one
+  -- with a quorum the learner is updated with the choice of a copy of the value, and the node asks
+  -- for the gap below, if there is one
   pub choose_step : (copy : Option V) → is_quorum m.weights (has_voter (counted l.tallies s b p) s b) ≡ true
       → copy ≡ v → (gap : ℕ) → ((w : Option V) → front_of (put_at l.learned s w) ≡ gap) → (posts : List (Packet V)) → posts ≡ asks_below m s gap
       → on_accepted n p b s v ≡ volatile_step (with_learner_update (with_learner_state m l) (CountAndLearn s b p copy)) posts
@@ -51,7 +54,8 @@ module _ {V : Type 0} (m n : Node V) (same : m ≡ n) (l : LearnerState V) (room
       (ap (λ (x : LearnerState V). front_of (put_at x.learned s v)) (sym room) ∙ front v)
       ∙ (λ i. volatile_step (with_learner_update (with_learner_state m (sym room i)) (CountAndLearn s b p (sym copied i))) (sym asked i))
 
--- A Told at a slot that is not learned: its value is learned, and the sender is asked for the next gap.
+-- A Told at a slot that is not learned: its value is learned, and the sender is asked for the next
+-- gap.
 
 module _ {V : Type 0} (m n : Node V) (same : m ≡ n) (l : LearnerState V) (room : l ≡ learner_state m) (p : ℕ) (s : ℕ) (v : Option V) (none : entry_at m.learned s ≡ None) where
   pub told_step : (copy : Option V) → copy ≡ v → (gap : ℕ) → ((w : Option V) → front_of (put_at l.learned s w) ≡ gap)

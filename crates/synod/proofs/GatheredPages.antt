@@ -14,7 +14,8 @@ module _ {V : Type 0} (m n : Node V) (same : m ≡ n) (p : ProposerState V) (roo
       ∙ ap (λ (ps : List (List (Option (List (SlotReport V))))). adds_page m ps) (with_new m.pages k i reports none)
       ∙ (λ j. volatile_step (with_proposer_update (with_proposing m (sym room j)) (AddPage k i (sym copied j))) (sym no_posts j))
 
-  -- a new page that completes the promise of its sender updates the proposer with the page and the sender, if there is no quorum yet
+  -- a new page that completes the promise of its sender updates the proposer with the page and the
+  -- sender, if there is no quorum yet
   pub hear_step : (h : Heard) → page_of m.pages h.node i ≡ None
       → completes_promise n (with_page n.pages h.node i reports) (n.heard ++ h ∷ []) ≡ volatile_step (with_proposer_update (with_proposing m p) (CompletePromise h i copy)) posts
   hear_step h none =

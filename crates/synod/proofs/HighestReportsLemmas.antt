@@ -1,4 +1,5 @@
--- The highest report of a slot, computed from the first report to the last, and the slot after the greatest reported one.
+-- The highest report of a slot, computed from the first report to the last, and the slot after the
+-- greatest reported one.
 use Rattle.synod.proofs.Words.{◌≡◌, ◌≢◌, ℕ, zero, suc, ◌+◌, ◌-◌, ◌<◌, ◌≤◌, max, min, Bool, true, false, ◌==◌, List, [], ◌∷◌, ◌++◌, length, take, drop, drop-cons, add-one, Option, Some, None, refl, ap, sym, ◌∙◌, subst, arith, if◌then◌else◌, append_assoc, append-nil, get_or, set, length-set, slice_index_or, eqb-true, le_of_suc-le-suc, ◌⊎◌, inl, inr, drop_of_length-le, length-take-le, get_or-set_same, get_or-set_other, get_or_default, take_all, nat_tests, AllByRecursion, Bor, option_copied, Ballot, SlotReport, is_below, Packet, Accept, to_all, accept_posts, higher, highest_at, reported_value, top_or_zero, top_or_first, proposed_values, entry_at, joined_pages, SLOTS, reports_of_pages, IsHighestTable, as_entries, IsLead}
 
 -- The order of ballots, as a test.
@@ -56,7 +57,8 @@ highest_at-push_other {V} s (x ∷ rs) r other = ap (λ (o : Option (SlotReport 
 -- The table.
 
 module _ {V : Type 0} (first : ℕ) (table : List (Option (Bor (SlotReport V)))) (reports : List (SlotReport V)) (r : SlotReport V) (h : IsHighestTable first table reports) where
-  -- at index k the table still has the highest report, whether or not the new report is of that slot
+  -- at index k the table still has the highest report, whether or not the new report is of that
+  -- slot
   kept_at : (k : ℕ) → k < length table → (t : Bool) → (r.slot == (first + k)) ≡ t → (r.slot ≡ first + k → joined_with (option_copied (slice_index_or table k None)) r ≡ option_copied (slice_index_or table k None))
       → option_copied (slice_index_or table k None) ≡ highest_at (first + k) (reports ++ r ∷ [])
   kept_at k low true e preserves =
@@ -64,12 +66,14 @@ module _ {V : Type 0} (first : ℕ) (table : List (Option (Bor (SlotReport V))))
       sym (preserves same) ∙ ap (λ (o : Option (SlotReport V)). joined_with o r) (h k low) ∙ sym (highest_at-push (first + k) reports r same)
   kept_at k low false e preserves = h k low ∙ sym (highest_at-push_other (first + k) reports r (λ d. grind (arith, nat_tests)))
 
-  -- if the new report is of no slot of the table, or no higher, the table still has the highest reports
+  -- if the new report is of no slot of the table, or no higher, the table still has the highest
+  -- reports
   pub highest_kept : ((k : ℕ) → k < length table → r.slot ≡ first + k → joined_with (option_copied (slice_index_or table k None)) r ≡ option_copied (slice_index_or table k None)) → IsHighestTable first table (reports ++ r ∷ [])
   highest_kept preserves k low = kept_at k low (r.slot == (first + k)) refl (preserves k low)
 
   module _ (place : ℕ) (b : Bor (SlotReport V)) (is : b.now ≡ r) (in_table : place < length table) (at : r.slot ≡ first + place) (takes : joined_with (option_copied (slice_index_or table place None)) r ≡ Some r) where
-    -- at index k the table with the new report has the highest report, whether or not k is the index of the report
+    -- at index k the table with the new report has the highest report, whether or not k is the
+    -- index of the report
     set_at : (k : ℕ) → k < length table → (t : Bool) → (k == place) ≡ t → option_copied (slice_index_or (set table place (Some b)) k None) ≡ highest_at (first + k) (reports ++ r ∷ [])
     set_at k low true e =
         let same : k ≡ place = eqb-true _ _ e in
@@ -134,7 +138,8 @@ pub all_right : {A : Type 0} (P : A → Type 0) (xs ys : List A) → AllByRecurs
 all_right P [] ys h = h
 all_right P (x ∷ xs) ys h = all_right P xs ys h.1
 
--- the reports of the pages from index i on are those of the page at index i and of the pages after it
+-- the reports of the pages from index i on are those of the page at index i and of the pages after
+-- it
 pub pages_next : {V : Type 0} (pages : List (Bor (List (SlotReport V)))) (i : ℕ) (page : Bor (List (SlotReport V))) → page ≡ get_or pages i page → i < length pages → reports_of_pages (drop i pages) ≡ page.now ++ reports_of_pages (drop (i + 1) pages)
 pages_next {V} pages i page is low = ap (λ (ps : List (Bor (List (SlotReport V)))). reports_of_pages ps) (drop_next pages i page is low)
 
@@ -142,7 +147,8 @@ pages_next {V} pages i page is low = ap (λ (ps : List (Bor (List (SlotReport V)
 pub highest_of_none : {V : Type 0} (first : ℕ) (table : List (Option (Bor (SlotReport V)))) → ((k : ℕ) → slice_index_or table k None ≡ None) → IsHighestTable first table []
 highest_of_none {V} first table none k low = ap (λ (o : Option (Bor (SlotReport V))). option_copied o) (none k)
 
--- if Accepts for slot s are posted, the posts for the slots from s on are these and those from s + 1 on
+-- if Accepts for slot s are posted, the posts for the slots from s on are these and those from s +
+-- 1 on
 pub fill_next : {V : Type 0} (me : ℕ) (weights : List ℕ) (b : Ballot) (s n m : ℕ) (reports : List (SlotReport V)) (v : Option V) (posts more : List (Packet V)) → more ≡ posts ++ to_all me weights (Accept b s v) → v ≡ reported_value (highest_at s reports) → n ≡ suc m
     → more ++ accept_posts me weights b (s + 1) (proposed_values reports (s + 1) m) ≡ posts ++ accept_posts me weights b s (proposed_values reports s n)
 fill_next {V} me weights b s n m reports v posts more posted is count =
@@ -182,7 +188,8 @@ joined-page {V} pages i count page e = here pages i count page e ∙ ap (λ (j :
   here {V} (Some x ∷ pages) zero count page e = let same : x ≡ page = cc in ap (λ (p : List (SlotReport V)). p ++ joined_pages pages count) same
   here (x ∷ pages) (suc i) count page e = here pages i count page e
 
--- if the page at index i is added, the reports of the added pages and of those to come stay the same
+-- if the page at index i is added, the reports of the added pages and of those to come stay the
+-- same
 pub add_next : {V : Type 0} (had : List (Option (List (SlotReport V)))) (i n : ℕ) (all more : List (Bor (List (SlotReport V)))) (page : Bor (List (SlotReport V))) → entry_at had i ≡ Some page.now → more ≡ all ++ page ∷ []
     → reports_of_pages more ++ joined_pages (drop (i + 1) had) n ≡ reports_of_pages all ++ joined_pages (drop i had) (suc n)
 add_next {V} had i n all more page is added =

@@ -5,7 +5,8 @@ use Rattle.synod.proofs.Words.{◌≡◌, ℕ, ◌-◌, ◌^◌, ◌==◌, ◌&&
 abbrev pub ChangesKept : {V : Type 0} → Node V → StepResult V → Type 0
 ChangesKept n step = kept_of step.node ≡ changed_by (kept_of n) step.change
 
--- the change of the step leads from the kept part before it to that after it, unless the step is refused
+-- the change of the step leads from the kept part before it to that after it, unless the step is
+-- refused
 abbrev pub ChangesKeptOnOk : {V : Type 0} → Node V → Result (StepResult V) Refusal → Type 0
 ChangesKeptOnOk n (Ok step) = ChangesKept n step
 ChangesKeptOnOk n (Err refusal) = Unit {0}
@@ -15,7 +16,8 @@ either : {V : Type 0} (n : Node V) (one other : StepResult V) (t : Bool) → Cha
 either n one other true h k = h
 either n one other false h k = k
 
--- if each of two answers changes the kept part as it says, unless it is a refusal, so does the one that a test picks
+-- if each of two answers changes the kept part as it says, unless it is a refusal, so does the one
+-- that a test picks
 either_ok : {V : Type 0} (n : Node V) (one other : Result (StepResult V) Refusal) (t : Bool) → ChangesKeptOnOk n one → ChangesKeptOnOk n other → ChangesKeptOnOk n (if t then one else other)
 either_ok n one other true h k = h
 either_ok n one other false h k = k

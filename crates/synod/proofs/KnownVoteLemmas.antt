@@ -16,7 +16,8 @@ abbrev IsPut : {V : Type 0} → ℕ → ℕ → List (SlotReport V) → ℕ → 
 IsPut p i reports k j page = (k ≡ p) × (j ≡ i) × (reports ≡ page)
 
 module _ {V : Type 0} (pages : List (List (Option (List (SlotReport V))))) (p i : ℕ) (reports : List (SlotReport V)) where
-  -- with a page put into the map of its node, each page of the node was there before or is the one put
+  -- with a page put into the map of its node, each page of the node was there before or is the one
+  -- put
   put_page : (k j : ℕ) (page : List (SlotReport V)) (m : List (Option (List (SlotReport V)))) → (k ≡ p) → m ≡ put_at (pages_from pages p) i reports
       → ((j ≡ i) × (entry_at (put_at (pages_from pages p) i reports) j ≡ Some reports)) ⊎ (entry_at (put_at (pages_from pages p) i reports) j ≡ entry_at (pages_from pages p) j)
       → entry_at m j ≡ Some page → (page_of pages k j ≡ Some page) ⊎ IsPut p i reports k j page
@@ -25,7 +26,8 @@ module _ {V : Type 0} (pages : List (List (Option (List (SlotReport V))))) (p i 
       let e : entry_at (pages_from pages p) j ≡ Some page = sym old ∙ ap (λ (m : List (Option (List (SlotReport V)))). entry_at m j) (sym is) ∙ h in
       inl (subst (λ (k : ℕ). page_of pages k j ≡ Some page) (sym same) e)
 
-  -- with a page put into the map of its node, each page of any node was there before or is the one put
+  -- with a page put into the map of its node, each page of any node was there before or is the one
+  -- put
   set_page : (k j : ℕ) (page : List (SlotReport V)) → let m : List (Option (List (SlotReport V))) = put_at (pages_from pages p) i reports in
       ((k ≡ p) × (pages_from (set pages p m) k ≡ m)) ⊎ (pages_from (set pages p m) k ≡ pages_from pages k)
       → page_of (set pages p m) k j ≡ Some page → (page_of pages k j ≡ Some page) ⊎ IsPut p i reports k j page
@@ -71,7 +73,8 @@ first_vote : (b c : Ballot) (p k : ℕ) (t : Bool) → is_same b c ≡ t → (if
 first_vote b c p k true same h = (sym (same_true b c same), elim (set_voter no_voters p k h) [ inl old ↦ absurd (no_voter 9 k old) | inr new ↦ new ])
 first_vote b c p k false same h = cc
 
--- if the first tally is of the vote's ballot, each voter counted was counted before or is that of the vote
+-- if the first tally is of the vote's ballot, each voter counted was counted before or is that of
+-- the vote
 same_tally : (t : Tally) (ts : List Tally) (b c : Ballot) (p k : ℕ) (u : Bool) → is_same t.ballot b ≡ true → is_same t.ballot c ≡ u
     → (if u then is_voter (set t.voters p true) k else voted_in ts c k) ≡ true → ((if u then is_voter t.voters k else voted_in ts c k) ≡ true) ⊎ IsCount b p c k
 same_tally t ts b c p k false same other h = inl h
@@ -106,7 +109,8 @@ module _ (tallies : List (Option (List Tally))) (s : ℕ) (b : Ballot) (p : ℕ)
   at_slot t c k e (inl old) = inl (subst (λ (u : ℕ). has_voter tallies u c k ≡ true) (sym e) old)
   at_slot t c k e (inr new) = inr (e, new.0, new.1)
 
-  -- at any slot each known voter was known before or is the one counted, whether or not the slot is that of the vote
+  -- at any slot each known voter was known before or is the one counted, whether or not the slot is
+  -- that of the vote
   counted_at : (t : ℕ) (c : Ballot) (k : ℕ) (ts : List Tally) → ts ≡ counted_in (tallies_at (entry_at tallies s)) b p
       → ((t ≡ s) × (entry_at (put_at tallies s ts) t ≡ Some ts)) ⊎ (entry_at (put_at tallies s ts) t ≡ entry_at tallies t)
       → voted_in (tallies_at (entry_at (put_at tallies s ts) t)) c k ≡ true → (has_voter tallies t c k ≡ true) ⊎ IsCounted s b p t c k

@@ -1,7 +1,8 @@
 -- The step by which a node leads.
 use Rattle.synod.proofs.Words.{◌≡◌, ◌∙◌, ℕ, List, [], Option, ap, sym, subst, Ballot, SlotReport, Packet, Heard, Leading, Lead, Node, volatile_step, kept_of, with_page, assembled, learner_state, all_reports, leads_with, with_proposer_update, IsLead}
 
--- if the posts, the next slot and the count of proposed values are those of a lead, the step is this update of the proposer with these posts
+-- if the posts, the next slot and the count of proposed values are those of a lead, the step is
+-- this update of the proposer with these posts
 leads_at : {V : Type 0} (m : Node V) (b : Ballot) (first : ℕ) (pages : List (List (Option (List (SlotReport V))))) (heard : List Heard) (posts : List (Packet V)) (next proposed : ℕ)
     → IsLead m.me m.weights b first (all_reports pages heard) m.waiting posts next proposed → leads_with m b first pages heard ≡ volatile_step (with_proposer_update m (Lead b next proposed)) posts
 leads_at m b first pages heard posts next proposed is =

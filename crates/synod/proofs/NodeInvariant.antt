@@ -12,7 +12,8 @@ pub either : {V : Type 0} (nodes : ℕ) (one other : StepResult V) (t : Bool) �
 either nodes one other true h k = h refl
 either nodes one other false h k = k refl
 
--- if each of two answers preserves the invariant when the test picks it, unless it is a refusal, so does the one picked
+-- if each of two answers preserves the invariant when the test picks it, unless it is a refusal, so
+-- does the one picked
 either_ok : {V : Type 0} (nodes : ℕ) (one other : Result (StepResult V) Refusal) (t : Bool) → (t ≡ true → KeepsOnOk nodes one) → (t ≡ false → KeepsOnOk nodes other) → KeepsOnOk nodes (if t then one else other)
 either_ok nodes one other true h k = h refl
 either_ok nodes one other false h k = k refl
@@ -198,7 +199,8 @@ module _ {V : Type 0} (n : Node V) (is : IsNode n) where
 
   -- A restart.
 
-  -- a restart from a record preserves the invariant, if the record has accepted entries only below the limit
+  -- a restart from a record preserves the invariant, if the record has accepted entries only below
+  -- the limit
   pub keeps_reloaded : (kept : KeptPart V) → length kept.accepted ≤ SLOTS → PreservesInvariant nodes (reloaded n kept)
   keeps_reloaded kept low = record {
     node = record { weights = is.weights; me = is.me; accepted = low; learned = omega arith; role = tt; pages = tt };

@@ -1,4 +1,5 @@
--- A vote is counted in the tallies of its slot, whether the slot's first tally or a later one is of its ballot.
+-- A vote is counted in the tallies of its slot, whether the slot's first tally or a later one is of
+-- its ballot.
 use Rattle.synod.proofs.Words.{◌≡◌, ◌≢◌, ◌∙◌, ℕ, zero, suc, ◌+◌, ◌<◌, ◌==◌, ◌&&◌, Bool, true, false, List, [], ◌∷◌, Option, Some, None, Result, Ok, Err, inl, inr, refl, sym, ap, arith, if◌then◌else◌, option_map, IsOk, OnOk, cases_Bool, nat_tests, entry_at, put_at, put_same, put_either, lookup, insert_entry, Ballot, Tally, is_same, is_voter, with_voter, no_voters, voted_in, counted_in, tallies_at, has_voter, counted, tally, other_tallies_at, voters_among, tallies_from, IsLearner}
 
 pub on_ok : {T E : Type 0} (r : Result T E) (P : Type 0) → IsOk r → OnOk r P → P
@@ -100,13 +101,15 @@ tallies-other_tallies first j (suc k) (None ∷ ts) other_tallies more t is here
 tallies-other_tallies first j (suc k) (Some u ∷ ts) other_tallies more t is here same =
     let others = same first (λ e. omega arith) in let rest = tallies-other_tallies (suc first) j k ts other_tallies more t (omega arith) here same in λ i. Some (u ∷ others i) ∷ rest i
 
--- A vote is counted: its slot had no tally, or its first tally is of the ballot, or it is of another ballot.
+-- A vote is counted: its slot had no tally, or its first tally is of the ballot, or it is of
+-- another ballot.
 
 module _ (firsts : List (Option Tally)) (other_tallies : ℕ → List Tally) (s : ℕ) (b : Ballot) (k : ℕ) where
   abbrev all : List (Option (List Tally))
   all = tallies_from 0 firsts other_tallies
 
-  -- if `us` is `ts`, the tallies of the slot, with the vote counted, putting `us` at the slot counts the vote
+  -- if `us` is `ts`, the tallies of the slot, with the vote counted, putting `us` at the slot
+  -- counts the vote
   counted_at : (ts us : List Tally) → tallies_at (entry_at all s) ≡ ts → us ≡ counted_in ts b k → put_at all s us ≡ counted all s b k
   counted_at ts us is counts = ap (λ (us : List Tally). put_at all s us) (counts ∙ ap (λ (ts : List Tally). counted_in ts b k) (sym is))
 

@@ -94,7 +94,8 @@ all_put [] (suc i) reports h r = (tt, all_put [] i reports tt r)
 all_put (x ∷ pages) zero reports h r = (r, h.1)
 all_put (x ∷ pages) (suc i) reports h r = (h.0, all_put pages i reports h.1 r)
 
--- with a page of such reports put into the map of its node, if it is new, the pages of all nodes are below the limit
+-- with a page of such reports put into the map of its node, if it is new, the pages of all nodes
+-- are below the limit
 pub all_with_page : {V : Type 0} (pages : List (List (Option (List (SlotReport V))))) (p i : ℕ) (reports : List (SlotReport V)) (t : Bool) → AllByRecursion (AllByRecursion IsReceivedPage) pages → AllByRecursion IsReport reports
     → AllByRecursion (AllByRecursion IsReceivedPage) (if t then pages else set pages p (put_at (pages_from pages p) i reports))
 all_with_page pages p i reports true h r = h

@@ -51,7 +51,8 @@ module _ {V : Type 0} (pages : List (List (Option (List (SlotReport V))))) (k i 
   pub page_other : (l j : ℕ) → (l ≢ k) ⊎ (j ≢ i) → k < length pages → page_of (with_page pages k i reports) l j ≡ page_of pages l j
   page_other l j other within = other_if (is_some (page_of pages k i)) l j other within
 
-  -- each page that was there stays, whether or not it is the delivered one and that was there before
+  -- each page that was there stays, whether or not it is the delivered one and that was there
+  -- before
   stays_if : (t : Bool) → is_some (page_of pages k i) ≡ t → (l j : ℕ) (page : List (SlotReport V)) → page_of pages l j ≡ Some page → k < length pages → (l ≡ k) ⊎ (l ≢ k) → (j ≡ i) ⊎ (j ≢ i)
       → page_of (with_page pages k i reports) l j ≡ Some page
   stays_if true e l j page had within a b = ap (λ (ps : List (List (Option (List (SlotReport V))))). page_of ps l j) (with_had e) ∙ had

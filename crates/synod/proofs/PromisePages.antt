@@ -18,7 +18,8 @@ cut_after-all (x ∷ xs) (suc room) = onto_first-all x (cut_after room xs) ∙ a
 pub pages-all : {T : Type 0} (xs : List T) → append_all (pages_of xs) ≡ xs
 pages-all xs = cut_after-all xs 256
 
--- if all pages are received, and each received one is the page at its index, they join to the whole list
+-- if all pages are received, and each received one is the page at its index, they join to the whole
+-- list
 pub joined-all : {T : Type 0} (pages : List (List T)) (had : List (Option (List T))) → ((i : ℕ) (page : List T) → entry_at had i ≡ Some page → slice_get pages i ≡ Some page)
     → length pages ≤ front_of had → joined_pages had (length pages) ≡ append_all pages
 joined-all [] had each all = refl

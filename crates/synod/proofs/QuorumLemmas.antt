@@ -4,7 +4,8 @@ use Rattle.synod.proofs.Words.{◌≡◌, ℕ, ◌+◌, ◌*◌, ◌<◌, Bool, 
 abbrev pub Shared : (ℕ → Bool) → (ℕ → Bool) → Type 0
 Shared p q = (k : ℕ) × (p k ≡ true) × (q k ≡ true)
 
--- either both sets have the first node, or without it they still weigh more than the remaining nodes
+-- either both sets have the first node, or without it they still weigh more than the remaining
+-- nodes
 first : (p q : ℕ → Bool) (a b : Bool) → p 0 ≡ a → q 0 ≡ b → (w x y s : ℕ)
     → w + s < ((if a then w else 0) + x) + ((if b then w else 0) + y)
     → Shared p q ⊎ (s < x + y)

@@ -111,7 +111,8 @@ pages-within first accepted low =
     let count = (pages_few 256 (reports_from first 0 accepted)).0 in
     omega (arith, low, few, count)
 
--- The invariant of the loop over the slots: the full pages, the page begun and the reports of the slots to come are all pages.
+-- The invariant of the loop over the slots: the full pages, the page begun and the reports of the
+-- slots to come are all pages.
 pub record Gathers {V : Type 0} (first s : ℕ) (accepted : List (Option (AcceptedEntry V))) (full : List (List (SlotReport V))) (page : List (SlotReport V)) : Type 0 where
   pub from : first ≤ s
   pub low : length page ≤ 256
@@ -144,7 +145,8 @@ module _ {V : Type 0} (first s : ℕ) (accepted : List (Option (AcceptedEntry V)
     abbrev here : SlotReport V
     here = record { slot = s; ballot = x.ballot; value = x.value }
 
-    -- the full pages, the page begun, the report of this slot and those of the slots to come are all pages
+    -- the full pages, the page begun, the report of this slot and those of the slots to come are
+    -- all pages
     with_here : pages_with full page (here ∷ rest) ≡ pages_of (reports_from first 0 accepted)
     with_here = ap (λ (rs : List (SlotReport V)). pages_with full page rs) (sym (reports-some first s s accepted x h.from is)) ∙ h.all
 

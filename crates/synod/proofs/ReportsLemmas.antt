@@ -48,7 +48,8 @@ pub record HasReport {V : Type 0} (s : ℕ) (b : Ballot) (rs : List (SlotReport 
 one_more : {V : Type 0} {slot : ℕ} {b : Ballot} {rs : List (SlotReport V)} (r : SlotReport V) → HasReport slot b rs → HasReport slot b (r ∷ rs)
 one_more r h = record { report = h.report; is_in = inr h.is_in; slot = h.slot; ballot = h.ballot }
 
--- a slot that is reported among later entries is reported, whether or not the entry before them is passed over
+-- a slot that is reported among later entries is reported, whether or not the entry before them is
+-- passed over
 here_reported : {V : Type 0} (first s : ℕ) (h : AcceptedEntry V) (hs : List (Option (AcceptedEntry V))) (slot : ℕ) (ballot : Ballot) (b : Bool) → nat_lt s first ≡ b
     → HasReport slot ballot (reports_from first (suc s) hs)
     → HasReport slot ballot (if b then reports_from first (suc s) hs else (record { slot = s; ballot = h.ballot; value = h.value } ∷ reports_from first (suc s) hs))
@@ -88,7 +89,8 @@ more_none : {V : Type 0} (s : ℕ) (r : SlotReport V) (rs : List (SlotReport V))
 more_none {V} s r rs n h q (inl e) d = n (ap (λ (x : SlotReport V). x.slot) e ∙ d)
 more_none s r rs n h q (inr i) d = h q i d
 
--- if the report added is of another slot or no higher, no report of the slot is higher than the highest
+-- if the report added is of another slot or no higher, no report of the slot is higher than the
+-- highest
 more_some : {V : Type 0} (s : ℕ) (r : SlotReport V) (rs : List (SlotReport V)) (p : SlotReport V) → (r.slot ≡ s → Upto r.ballot p.ballot) → IsHighest s rs p → (q : SlotReport V) → In q (r ∷ rs) → q.slot ≡ s → Upto q.ballot p.ballot
 more_some {V} s r rs p n h q (inl e) d = subst (λ (x : SlotReport V). Upto x.ballot p.ballot) e (n (ap (λ (x : SlotReport V). x.slot) e ∙ d))
 more_some s r rs p n h q (inr i) d = h.most q i d
@@ -102,12 +104,14 @@ alone_most : {V : Type 0} (s : ℕ) (r : SlotReport V) (rs : List (SlotReport V)
 alone_most {V} s r rs h q (inl e) d = subst (λ (x : SlotReport V). Upto x.ballot r.ballot) e (upto_self r.ballot)
 alone_most s r rs h q (inr i) d = absurd (h q i d)
 
--- if the highest report is at most as high as the one added, no report of the slot is higher than the one added
+-- if the highest report is at most as high as the one added, no report of the slot is higher than
+-- the one added
 over_most : {V : Type 0} (s : ℕ) (r : SlotReport V) (rs : List (SlotReport V)) (p : SlotReport V) → Upto p.ballot r.ballot → IsHighest s rs p → (q : SlotReport V) → In q (r ∷ rs) → q.slot ≡ s → Upto q.ballot r.ballot
 over_most {V} s r rs p u h q (inl e) d = subst (λ (x : SlotReport V). Upto x.ballot r.ballot) e (upto_self r.ballot)
 over_most s r rs p u h q (inr i) d = upto_upto q.ballot p.ballot r.ballot (h.most q i d) u
 
--- with a report of the slot added, the highest is the old one or the new one, by the test of their ballots
+-- with a report of the slot added, the highest is the old one or the new one, by the test of their
+-- ballots
 higher_either : {V : Type 0} (s : ℕ) (r : SlotReport V) (rs : List (SlotReport V)) (p : SlotReport V) (b : Bool) → is_below r.ballot p.ballot ≡ b → r.slot ≡ s → IsHighest s rs p → HighestHolds s (r ∷ rs) (if b then Some p else Some r)
 higher_either s r rs p true e d h = kept_highest s r rs p (λ _. under_is_upto _ _ (under_true _ _ e)) h
 higher_either s r rs p false e d h = record { is_in = inl refl; slot = d; most = over_most s r rs p (under_false _ _ e) h }

@@ -55,7 +55,8 @@ module _ {V : Type 0} (n : Node V) (is : IsNode n) where
         (λ e. leads_keep heard)
         (λ e. record { node = with_parts n is n.promise n.round n.accepted n.role pages heard n.learned n.waiting is.accepted is.learned is.role each; posts = tt })
 
-    -- a page for the node's ballot preserves the invariant, whether or not pages of its promise are missing
+    -- a page for the node's ballot preserves the invariant, whether or not pages of its promise are
+    -- missing
     promise_page_preserves : (p count : ℕ) → PreservesInvariant (length n.weights) (on_promise_page n p b first count pages)
     promise_page_preserves p count = either (length n.weights) (on_complete_promise n b first pages (n.heard ++ record { node = p; count = count } ∷ [])) (adds_page n pages) (are_received (pages_from pages p) count)
         (λ e. complete_promise_preserves (n.heard ++ record { node = p; count = count } ∷ []))

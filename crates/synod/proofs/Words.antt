@@ -1,4 +1,5 @@
--- Names that the proofs of this crate use, re-exported from one place. The proofs import all others directly.
+-- Names that the proofs of this crate use, re-exported from one place. The proofs import all others
+-- directly.
 pub use Rattle.indexmap.specs.IndexMap.{insert_entry}
 pub use Rattle.slots.proofs.FiniteMapLemmas.{front_of-le, top_of-put_at}
 pub use Rattle.slots.proofs.Lists.{In}

@@ -1,6 +1,8 @@
 -- The acceptor: its promises and its accepted entries.
--- Source: Lamport, Paxos Made Simple, 2.2: phases 1(b) and 2(b), and its end, on informing a refused proposer.
--- The code makes the pages of a promise directly from the slots. Here the list of all reports is cut into pages.
+-- Source: Lamport, Paxos Made Simple, 2.2: phases 1(b) and 2(b), and its end, on informing a
+-- refused proposer.
+-- The code makes the pages of a promise directly from the slots. Here the list of all reports is
+-- cut into pages.
 use Rattle.std.specs.Prelude.{ℕ, suc, nat_lt, List, [], ◌∷◌, Option, Some, None, length, if◌then◌else◌}
 use Rattle.synod.specs.Words.{put_at, Ballot, SlotReport, Packet, Promise, Accepted, Nack, AcceptedEntry, Entry}
 use Rattle.synod.specs.declared.change.Change.TheVariants.{Promise as PromiseChange}

@@ -1,4 +1,5 @@
--- How the capacity of a node grows: a step that is staged and then dropped leaves its capacity reserved.
+-- How the capacity of a node grows: a step that is staged and then dropped leaves its capacity
+-- reserved.
 -- Source: this project stages a step before it commits it.
 -- In the code only a restart or a committed step lowers the reserved capacity of a node.
 use Rattle.std.specs.Prelude.{◌≤◌, ℕ, List, slice_index_or}

@@ -24,8 +24,8 @@ pub record LearnerState (V : Type 0) : Type 0 where
   pub tallies : List (Option (List Tally))
   pub learned : List (Option (Option V))
 
--- the votes under ballots other than the one first counted at their slot, by slot and ballot, and the number of further
--- tallies for which memory is reserved
+-- the votes under ballots other than the one first counted at their slot, by slot and ballot, and
+-- the number of further tallies for which memory is reserved
 pub record OtherTalliesView : Type 0 where
   pub votes : List ((ℕ × Ballot) × List Bool)
   pub capacity : ℕ

@@ -1,7 +1,7 @@
 -- The learner: the votes that it counts, and the values that it learns and tells.
 -- Source: Lamport, Paxos Made Simple, 2.3.
--- The code has the tally of the first ballot at each slot in a map, and all others in a table. A tally is a ballot and the
--- nodes whose votes under it were counted.
+-- The code has the tally of the first ballot at each slot in a map, and all others in a table. A
+-- tally is a ballot and the nodes whose votes under it were counted.
 use Rattle.std.specs.Prelude.{ℕ, Bool, false, true, nat_lt, List, [], ◌∷◌, Option, Some, None, slice_set, slice_index_or, replicate, if◌then◌else◌}
 use Rattle.synod.specs.Words.{SLOTS, entry_at, put_at, MAX_NODES, Ballot, Packet, Ask, Told, Tally}
 use Rattle.synod.specs.Weights.{is_quorum}
@@ -53,12 +53,13 @@ asks_below n s gap = if nat_lt gap s then to_others n.me n.weights (Ask gap) els
 abbrev pub asks_others_for_first_gap : {V : Type 0} → Node V → ℕ → List (Packet V)
 asks_others_for_first_gap n s = asks_below n s (log_length n)
 
--- a chosen value is learned, and all other nodes are asked for the first gap if it is below the slot
+-- a chosen value is learned, and all other nodes are asked for the first gap if it is below the
+-- slot
 abbrev pub learns_chosen : {V : Type 0} → Node V → ℕ → Option V → StepResult V
 learns_chosen n s v = volatile_step (learns n s v) (asks_others_for_first_gap (learns n s v) s)
 
--- the step of a node n that has counted the vote: if the nodes counted at slot s under ballot b are a quorum, v is chosen
--- and learned
+-- the step of a node n that has counted the vote: if the nodes counted at slot s under ballot b are
+-- a quorum, v is chosen and learned
 abbrev pub counts : {V : Type 0} → Node V → Ballot → ℕ → Option V → StepResult V
 counts n b s v = if is_quorum n.weights (has_voter n.tallies s b) then learns_chosen n s v else unchanged n
 

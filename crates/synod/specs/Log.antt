@@ -1,5 +1,6 @@
 -- The log of a node: the learned values up to the first gap.
--- Source: Lamport, Paxos Made Simple, section 3: a command is executed once all before it are known.
+-- Source: Lamport, Paxos Made Simple, section 3: a command is executed once all before it are
+-- known.
 -- The code stores the length of the log.
 use Rattle.std.specs.Prelude.{ℕ, List, Option}
 use Rattle.synod.specs.Words.{entries_to_gap, front_of}

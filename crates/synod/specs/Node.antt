@@ -42,8 +42,8 @@ restarted_node me weights kept = record {
 abbrev pub new_node : {V : Type 0} → ℕ → List ℕ → Node V
 new_node me weights = restarted_node me weights new_kept
 
--- the result of a step: the state of the node, the change of its kept part that is stored, and its posts in order; a
--- restart has no change, even if its kept part is a loaded record
+-- the result of a step: the state of the node, the change of its kept part that is stored, and its
+-- posts in order; a restart has no change, even if its kept part is a loaded record
 pub record StepResult (V : Type 0) : Type 0 where
   pub node : Node V
   pub change : Option (Change V)

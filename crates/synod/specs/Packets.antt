@@ -30,9 +30,11 @@ abbrev pub accept_posts : {V : Type 0} → ℕ → List ℕ → Ballot → ℕ �
 accept_posts me weights ballot s [] = []
 accept_posts me weights ballot s (v ∷ vs) = to_all me weights (Accept ballot s v) ++ accept_posts me weights ballot (suc s) vs
 
--- The limits of every packet: its sender is one of the nodes, each slot in it is below SLOTS, the first slot of a
--- Prepare is at most SLOTS, the number of a page is from 1 to the count of pages, and this count is at most MAX_PAGES.
--- IsReport, IsPage, IsBody and IsPacket say that a report, a page, a body and a packet are within these limits.
+-- The limits of every packet: its sender is one of the nodes, each slot in it is below SLOTS, the
+-- first slot of a Prepare is at most SLOTS, the number of a page is from 1 to the count of pages,
+-- and this count is at most MAX_PAGES.
+-- IsReport, IsPage, IsBody and IsPacket say that a report, a page, a body and a packet are within
+-- these limits.
 
 abbrev pub IsReport : {V : Type 0} → SlotReport V → Type 0
 IsReport report = report.slot < SLOTS

@@ -1,6 +1,8 @@
 -- The pages of a promise: its reports are sent in pages of 256.
--- Source: this project's choice, for Lamport, Paxos Made Simple, section 3, where one promise serves all instances.
--- The code stores the received pages by sender and index. Here a list is cut into pages, and received pages are joined.
+-- Source: this project's choice, for Lamport, Paxos Made Simple, section 3, where one promise
+-- serves all instances.
+-- The code stores the received pages by sender and index. Here a list is cut into pages, and
+-- received pages are joined.
 use Rattle.std.specs.Prelude.{ℕ, zero, suc, Bool, not, nat_lt, List, [], ◌∷◌, ◌++◌, Option, Some, None}
 use Rattle.synod.specs.Words.{front_of}
 
@@ -14,7 +16,8 @@ cut_after left [] = [] ∷ []
 cut_after (suc left) (x ∷ xs) = onto_first x (cut_after left xs)
 cut_after zero (x ∷ xs) = [] ∷ onto_first x (cut_after 255 xs)
 
--- the list in pages of 256 elements, of which the last may have fewer; an empty list is one empty page
+-- the list in pages of 256 elements, of which the last may have fewer; an empty list is one empty
+-- page
 abbrev pub pages_of : {T : Type 0} → List T → List (List T)
 pages_of xs = cut_after 256 xs
 

@@ -1,6 +1,8 @@
 -- The proposer: its offers, ballots, promises and proposals.
--- Source: Lamport, Paxos Made Simple, 2.2, phases 1(a) and 2(a), and section 3 for a leader of all instances.
--- The code has a table of the highest reports by slot. The definition finds each in one list of all reports heard.
+-- Source: Lamport, Paxos Made Simple, 2.2, phases 1(a) and 2(a), and section 3 for a leader of all
+-- instances.
+-- The code has a table of the highest reports by slot. The definition finds each in one list of all
+-- reports heard.
 use Rattle.std.specs.Prelude.{ℕ, zero, suc, ◌+◌, ◌-◌, ◌^◌, max, Bool, false, not, ◌==◌, ◌&&◌, nat_lt, List, [], ◌∷◌, ◌++◌, map, take, drop, length, Option, Some, None, Result, Ok, Err, if◌then◌else◌}
 use Rattle.synod.specs.Words.{SLOTS, MAX_VALUE_BYTES, MAX_WAITING, Ballot, SlotReport, Prepare, Accept, Round, Heard, Role, Idle, Preparing, Leading, Refusal, Busy, LogFull, RoundsSpent, TooLong}
 use Rattle.synod.specs.Weights.{is_quorum}
@@ -102,7 +104,8 @@ abbrev pub all_reports : {V : Type 0} → List (List (Option (List (SlotReport V
 all_reports pages [] = []
 all_reports pages (h ∷ hs) = joined_pages (pages_from pages h.node) h.count ++ all_reports pages hs
 
--- the node leads: it proposes reported values or no-operations at the slots from first up to top, and waiting values from top on
+-- the node leads: it proposes reported values or no-operations at the slots from first up to top,
+-- and waiting values from top on
 abbrev pub leads : {V : Type 0} → Node V → Ballot → ℕ → List (SlotReport V) → ℕ → StepResult V
 leads n b first reports top =
     let proposed = take (SLOTS - top) n.waiting in
@@ -114,15 +117,28 @@ leads n b first reports top =
 abbrev pub leads_with : {V : Type 0} → Node V → Ballot → ℕ → List (List (Option (List (SlotReport V)))) → List Heard → StepResult V
 leads_with n b first pages heard = leads n b first (all_reports pages heard) (top_or_first first (all_reports pages heard))
 
+-- the node leads once page i of node p is received, with the reports of the nodes heard
+abbrev pub leads_with_page : {V : Type 0} → Node V → Ballot → ℕ → ℕ → ℕ → List (SlotReport V) → List Heard → StepResult V
+leads_with_page n b first p i reports heard = leads_with n b first (with_page n.pages p i reports) heard
+
 -- A page of a promise arrives. A node is heard once all pages of its promise are received.
 
 -- the page is added, and further pages of the promise are missing
 abbrev pub adds_page : {V : Type 0} → Node V → List (List (Option (List (SlotReport V)))) → StepResult V
 adds_page n pages = volatile_step (record n { pages = pages }) []
 
+-- page i of node p is received, and further pages of the promise are missing
+abbrev pub receives_page : {V : Type 0} → Node V → ℕ → ℕ → List (SlotReport V) → StepResult V
+receives_page n p i reports = adds_page n (with_page n.pages p i reports)
+
 -- the sender is heard, and the nodes heard are no quorum yet
 abbrev pub completes_promise : {V : Type 0} → Node V → List (List (Option (List (SlotReport V)))) → List Heard → StepResult V
 completes_promise n pages heard = volatile_step (record n { pages = pages; heard = heard }) []
+
+-- page i of a sender is received and completes the promise: the sender is heard, and the nodes
+-- heard are no quorum yet
+abbrev pub receives_last_page : {V : Type 0} → Node V → Heard → ℕ → List (SlotReport V) → StepResult V
+receives_last_page n sender i reports = completes_promise n (with_page n.pages sender.node i reports) (n.heard ++ sender ∷ [])
 
 -- the sender is heard, and the node leads if the nodes heard are a quorum
 abbrev pub on_complete_promise : {V : Type 0} → Node V → Ballot → ℕ → List (List (Option (List (SlotReport V)))) → List Heard → StepResult V
@@ -137,6 +153,10 @@ on_promise_page n p b first count pages =
     if are_received (pages_from pages p) count
     then on_complete_promise n b first pages (n.heard ++ record { node = p; count = count } ∷ [])
     else adds_page n pages
+
+-- page i arrives for the ballot in preparation, from a sender that is not heard yet
+abbrev pub on_page_of : {V : Type 0} → Node V → Ballot → ℕ → Heard → ℕ → List (SlotReport V) → StepResult V
+on_page_of n b first sender i reports = on_promise_page n sender.node b first sender.count (with_page n.pages sender.node i reports)
 
 abbrev pub on_promise_as : {V : Type 0} → Role → Node V → ℕ → Ballot → ℕ → ℕ → List (SlotReport V) → StepResult V
 on_promise_as Idle n p b page count reports = unchanged n

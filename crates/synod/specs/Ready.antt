@@ -1,5 +1,6 @@
 -- A staged step: the node that staged it, and the step.
--- Source: this project stores the change of a step once the step is staged, and before it is committed.
+-- Source: this project stores the change of a step once the step is staged, and before it is
+-- committed.
 -- The code stores the updates to apply. The step is their result.
 use Rattle.std.specs.Prelude.{◌≡◌, Some, Result, Ok, Err}
 use Rattle.synod.specs.Words.{Refusal, Memory}

@@ -27,7 +27,8 @@ abbrev pub changed_by : {V : Type 0} → KeptPart V → Option (Change V) → Ke
 changed_by kept None = kept
 changed_by kept (Some change) = changed kept change
 
--- a record as contracts see it: the kept part, and the number of slots, from 0 on, for which memory is reserved
+-- a record as contracts see it: the kept part, and the number of slots, from 0 on, for which memory
+-- is reserved
 pub record RecordView (V : Type 0) : Type 0 where
   pub kept : KeptPart V
   pub capacity : ℕ

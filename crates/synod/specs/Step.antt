@@ -32,9 +32,9 @@ reloaded n kept = record { node = restarted_node n.me n.weights kept; change = N
 abbrev pub restarted : {V : Type 0} → Node V → StepResult V
 restarted n = reloaded n (kept_of n)
 
--- The invariant of a node: its weights are allowed ones, it is one of the nodes, each slot with an accepted entry, a
--- learned value or a received report is below SLOTS, and the first slot of its Prepare or the slot of its next proposal
--- is at most SLOTS.
+-- The invariant of a node: its weights are allowed ones, it is one of the nodes, each slot with an
+-- accepted entry, a learned value or a received report is below SLOTS, and the first slot of its
+-- Prepare or the slot of its next proposal is at most SLOTS.
 
 abbrev pub IsRole : Role → Type 0
 IsRole Idle = Unit {0}

@@ -1,6 +1,7 @@
 -- The weights of the nodes, and quorums: sets of nodes with more than half of the total weight.
 -- Source: Lamport, Paxos Made Simple, 2.2, where a majority of the acceptors is such a set.
--- The code stores an array of nine and a count. Here a set of nodes is a predicate on their numbers.
+-- The code stores an array of nine and a count. Here a set of nodes is a predicate on their
+-- numbers.
 use Rattle.std.specs.Prelude.{ℕ, suc, ◌+◌, ◌*◌, ◌≤◌, Bool, true, nat_lt, List, [], ◌∷◌, length, if◌then◌else◌, All}
 use Rattle.synod.specs.Words.{MAX_NODES, MAX_WEIGHT}
 

@@ -1,15 +1,16 @@
-//! Builds the proposals of a new leader: at each slot the value of the highest ballot reported there.
+//! Builds the proposals of a new leader: at each slot the value of the highest ballot reported
+//! there.
 ghost use Rattle.std.specs.Prelude.{◌≡◌, ◌<◌, ◌≤◌, ◌+◌, ◌-◌, ◌++◌, [], ◌∷◌, ℕ, List, Option, Some, None, max, min, map, length, OnOk, IfOk, slice_index_or};
 ghost use Rattle.std.specs.List.{AllByRecursion};
 ghost use Rattle.slots.specs.declared.slots.TheConstants.{SLOTS};
 ghost use Rattle.synod.specs.declared.packet.SlotReport.{SlotReport};
 ghost use Rattle.synod.specs.Packets.{IsReport, accept_posts};
 ghost use Rattle.std.specs.Option.{option_copied};
-ghost use Rattle.synod.specs.Proposer.{top_or_zero, top_or_first, highest_at, reported_value, proposed_values, all_reports};
+ghost use Rattle.synod.specs.Proposer.{top_or_zero, top_or_first, highest_at, reported_value, proposed_values};
 ghost use Rattle.synod.specs.PromisePages.{joined_pages};
 ghost use Rattle.synod.specs.Node.{pages_from};
-ghost use Rattle.synod.specs.Stored.ReceivedPages.{pages_after_delivery};
-ghost use Rattle.synod.specs.HighestReports.{reports_of_pages, IsHighestTable, as_entries, IsLead};
+ghost use Rattle.synod.specs.Stored.ReceivedPages.{pages_after_delivery, reports_after_delivery};
+ghost use Rattle.synod.specs.HighestReports.{reports_of_pages, IsHighestTable, as_entries, IsLeadResult};
 
 use crate::ballot::Ballot;
 use crate::packet::{Packet, SlotReport};
@@ -45,8 +46,8 @@ fn top_of_reports<V>(first: u32, pages: &[&[SlotReport<V>]]) -> u32
     if top == 0 { first } else { top }
 }
 
-/// Enters a report in the table if its ballot is higher than that of the report at its slot. Element `i` of the table is for
-/// slot `first + i`; reports of other slots are ignored.
+/// Enters a report in the table if its ballot is higher than that of the report at its slot.
+/// Element `i` of the table is for slot `first + i`; reports of other slots are ignored.
 fn enter_report<'a, V>(
     table: &mut Vec<Option<&'a SlotReport<V>>>,
     first: u32,
@@ -85,7 +86,8 @@ fn enter_page<'a, V>(
     }
 }
 
-/// Returns the report of the highest ballot in all pages for each slot from `first` up to `top`, `top` excluded.
+/// Returns the report of the highest ballot in all pages for each slot from `first` up to `top`,
+/// `top` excluded.
 fn highest_reports<'a, V>(
     alloc: Global,
     first: u32,
@@ -115,8 +117,8 @@ fn value_to_propose<V: Value>(highest: Option<&SlotReport<V>>) -> Result<Option<
     }
 }
 
-/// Appends an Accept to all nodes for each slot from `first` up to `top`, `top` excluded, with the value of the report of the
-/// highest ballot.
+/// Appends an Accept to all nodes for each slot from `first` up to `top`, `top` excluded, with the
+/// value of the report of the highest ballot.
 fn post_reported_values<V: Value>(
     alloc: Global,
     posts: &mut Vec<Packet<V>>,
@@ -169,7 +171,7 @@ fn heard_pages<'a, V: Drop>(
     heard: &[Heard],
 ) -> Result<Vec<&'a [SlotReport<V>]>, AllocError>
     requires { pages.now.node < length pages.now.pages.now }
-    ensures { IfOk result (λ all. reports_of_pages all.items ≡ all_reports (pages_after_delivery pages.now) heard.now) }
+    ensures { IfOk result (λ all. reports_of_pages all.items ≡ reports_after_delivery pages.now heard.now) }
 {
     let mut all = Vec::new(alloc);
     for node in heard {
@@ -219,9 +221,10 @@ pub(crate) struct Lead<V> {
     pub proposed: usize,
 }
 
-/// Returns the proposals of a new leader. At each slot from `first` up to the greatest one reported it proposes the
-/// value reported there under the highest ballot, or the no-operation if none is reported there. From the next slot on,
-/// or from `first` on if nothing is reported, it proposes waiting values while slots are left.
+/// Returns the proposals of a new leader. At each slot from `first` up to the greatest one reported
+/// it proposes the value reported there under the highest ballot, or the no-operation if none is
+/// reported there. From the next slot on, or from `first` on if nothing is reported, it proposes
+/// waiting values while slots are left.
 ///
 /// Cost: the reports, the slots from `first` to the greatest one reported, and the posts.
 pub(crate) fn lead_posts<V: Value>(
@@ -236,8 +239,8 @@ pub(crate) fn lead_posts<V: Value>(
 ) -> Result<Lead<V>, AllocError>
     requires node { pages.now.node < length pages.now.pages.now }
     requires first { first ≤ SLOTS }
-    requires reports { AllByRecursion IsReport (all_reports (pages_after_delivery pages.now) heard.now) }
-    ensures { IfOk result (λ lead. IsLead me weights.now ballot first (all_reports (pages_after_delivery pages.now) heard.now) waiting.now lead.posts.items lead.next lead.proposed) }
+    requires reports { AllByRecursion IsReport (reports_after_delivery pages.now heard.now) }
+    ensures { IfOk result (IsLeadResult me weights.now ballot first (reports_after_delivery pages.now heard.now) waiting.now) }
 {
     let all = heard_pages(alloc, pages, heard)?;
     let top = top_of_reports(first, &all);

@@ -34,8 +34,8 @@ pub enum LearnerUpdate<V> {
     },
 }
 
-/// The learner's part of a node: the tally of the first ballot counted at each slot, those of other ballots, and the learned
-/// values.
+/// The learner's part of a node: the tally of the first ballot counted at each slot, those of other
+/// ballots, and the learned values.
 #[derive(Drop)]
 pub struct Learner<V> {
     first_tallies: Slots<Tally>,
@@ -83,7 +83,8 @@ impl<V: Drop> Learner<V> {
         self.learned.get(slot)
     }
 
-    /// Returns the first gap: the least slot without a learned value, which is the length of the log.
+    /// Returns the first gap: the least slot without a learned value, which is the length of the
+    /// log.
     pub(crate) fn first_gap(&self) -> u32
         ensures front { result ≡ front_of self.now.state.learned }
         ensures within { result ≤ SLOTS }
@@ -135,8 +136,8 @@ impl<V: Drop> Learner<V> {
 
     /// Counts a vote. It does not allocate.
     ///
-    /// Cost: a constant number of look-ups, however many ballots have votes at the slot. The first vote at the first
-    /// slot without votes scans on to the next such slot.
+    /// Cost: a constant number of look-ups, however many ballots have votes at the slot. The first
+    /// vote at the first slot without votes scans on to the next such slot.
     fn count_vote(&mut self, slot: u32, ballot: Ballot, node: u8)
         requires { CanCount self.old slot node }
         ensures tallies { self.new.state.tallies ≡ counted self.old.state.tallies slot ballot node }

@@ -1,15 +1,16 @@
 //! One node of Multi-Paxos: proposer, acceptor and learner at once.
 //!
-//! `NodeCore` takes the steps of Multi-Paxos: the contract of each call cites the definition of its step in
-//! `specs/Step.antt` or `specs/Proposer.antt`, with the packets that it posts and the refusal that it may meet.
-//! A step is staged first: staging allocates, may fail and changes nothing but capacity. Then the step is
-//! committed, which does not allocate. The public calls that stage a step are named `ready_..`, the functions that they
-//! are made of `stage_..`.
+//! `NodeCore` takes the steps of Multi-Paxos: the contract of each call cites the definition of its
+//! step in `specs/Step.antt` or `specs/Proposer.antt`, with the packets that it posts and the
+//! refusal that it may meet. A step is staged first: staging allocates, may fail and changes
+//! nothing but capacity. Then the step is committed, which does not allocate. The public calls that
+//! stage a step are named `ready_..`, the functions that they are made of `stage_..`.
 //!
 //! Reading order:
-//! - the messages and the kept part: `value`, `weights`, `ballot`, `packet`, `change`, `record`, `keep`;
-//! - the parts of a node: `posts`; for its acceptor `promise`; for its proposer `promise_pages`, `proposer`, `leading`;
-//!   for its learner `tally`, `other_tallies`, `learner`;
+//! - the messages and the kept part: `value`, `weights`, `ballot`, `packet`, `change`, `record`,
+//!   `keep`;
+//! - the parts of a node: `posts`; for its acceptor `promise`; for its proposer `promise_pages`,
+//!   `proposer`, `leading`; for its learner `tally`, `other_tallies`, `learner`;
 //! - the node: `refusal`, `ready`, `node`.
 #![tactic(auto)]
 

@@ -23,10 +23,11 @@ pub use state::NodeState;
 use std::alloc::{AllocError, Global};
 use std::marker::Model;
 
-/// One node of a replicated log, generic over its values. Contracts see a `Core`: its state (`Node`) and the
-/// capacity that it has reserved.
+/// One node of a replicated log, generic over its values. Contracts see a `Core`: its state
+/// (`Node`) and the capacity that it has reserved.
 ///
-/// Source: Lamport, Paxos Made Simple, 2 and 3; `specs/Step.antt` and `specs/Proposer.antt` define the steps.
+/// Source: Lamport, Paxos Made Simple, 2 and 3; `specs/Step.antt` and `specs/Proposer.antt` define
+/// the steps.
 #[derive(Drop)]
 pub struct NodeCore<V> {
     alloc: Global,
@@ -195,8 +196,8 @@ impl<V: Value> NodeCore<V> {
 
     /// Commits a staged step, and returns its posts. It does not allocate.
     ///
-    /// The node has to be as it was when it staged the step, with no less capacity than it had then. That is so if it has
-    /// only staged steps since then, and committed none.
+    /// The node has to be as it was when it staged the step, with no less capacity than it had
+    /// then. That is so if it has only staged steps since then, and committed none.
     pub fn commit(&mut self, ready: Ready<V>) -> Vec<Packet<V>>
         requires node { self.old.node ≡ ready.before.node }
         requires capacity { KeepsCapacity ready.before self.old }
@@ -218,11 +219,11 @@ impl<V: Value> NodeCore<V> {
         self.learner.apply_update(staged.learner);
     }
 
-    /// Begins a ballot above all that the node has begun or promised, and returns the posts. After an error the node is
-    /// unchanged.
+    /// Begins a ballot above all that the node has begun or promised, and returns the posts. After
+    /// an error the node is unchanged.
     ///
-    /// Errors, the first that applies: `RoundsSpent`, `Memory`. Cost: the posts, and the pages of an earlier ballot,
-    /// which it discards.
+    /// Errors, the first that applies: `RoundsSpent`, `Memory`. Cost: the posts, and the pages of
+    /// an earlier ballot, which it discards.
     pub fn begin(&mut self) -> Result<Vec<Packet<V>>, Refusal>
         ensures outcome { IsCallResult self.old.node self.new.node (begin_result self.old.node) result }
         ensures posts { IfOk result (λ posts. AllByRecursion (IsPost (length self.old.node.weights)) posts.items) }
@@ -253,11 +254,11 @@ impl<V: Value> NodeCore<V> {
         self.stage_posts(Vec::new(self.alloc))
     }
 
-    /// Offers a value, and returns the posts. A leader proposes it; at another node it waits. After an error the node is
-    /// unchanged.
+    /// Offers a value, and returns the posts. A leader proposes it; at another node it waits. After
+    /// an error the node is unchanged.
     ///
-    /// Errors, the first that applies: `TooLong`, `LogFull`, `Busy`, `Memory`. Cost: the posts, each with a copy of the
-    /// value.
+    /// Errors, the first that applies: `TooLong`, `LogFull`, `Busy`, `Memory`. Cost: the posts,
+    /// each with a copy of the value.
     pub fn offer(&mut self, value: V) -> Result<Vec<Packet<V>>, Refusal>
         ensures outcome { IsCallResult self.old.node self.new.node (offer_result V.bytes self.old.node value) result }
         ensures posts { IfOk result (λ posts. AllByRecursion (IsPost (length self.old.node.weights)) posts.items) }
@@ -268,12 +269,13 @@ impl<V: Value> NodeCore<V> {
         }
     }
 
-    /// Receives a packet, and returns the posts. After `Memory` the node is unchanged, as if the packet were lost.
+    /// Receives a packet, and returns the posts. After `Memory` the node is unchanged, as if the
+    /// packet were lost.
     ///
-    /// Cost: the packet, the posts, and the capacity that it reserves, up to the slot or the page of the packet. A Prepare
-    /// that is not refused also costs the slots from its first one up to the top of the record. The page that completes
-    /// a quorum also costs all pages received for the ballot. A packet that fills the first gap of a map scans on to
-    /// the next gap.
+    /// Cost: the packet, the posts, and the capacity that it reserves, up to the slot or the page
+    /// of the packet. A Prepare that is not refused also costs the slots from its first one up to
+    /// the top of the record. The page that completes a quorum also costs all pages received for
+    /// the ballot. A packet that fills the first gap of a map scans on to the next gap.
     pub fn on_packet(&mut self, packet: &Packet<V>) -> Result<Vec<Packet<V>>, Refusal>
         requires { IsPacket (length self.old.node.weights) packet.now }
         ensures outcome { IsCallResult self.old.node self.new.node (Ok (on_packet self.old.node packet.now)) result }
@@ -326,7 +328,8 @@ impl<V: Value> NodeCore<V> {
         Ok(posts)
     }
 
-    /// Commits a restart: the kept part stays, the rest is that of a new node. It does not allocate.
+    /// Commits a restart: the kept part stays, the rest is that of a new node. It does not
+    /// allocate.
     pub fn commit_restart(&mut self)
         ensures { self.new.node ≡ (restarted self.old.node).node }
     {
@@ -343,8 +346,8 @@ impl<V: Value> NodeCore<V> {
         self.commit_restart();
     }
 
-    /// Restarts: the kept part stays, the rest is that of a new node. Returns posts that ask all other nodes for the
-    /// first entry. After `Memory` the node is unchanged.
+    /// Restarts: the kept part stays, the rest is that of a new node. Returns posts that ask all
+    /// other nodes for the first entry. After `Memory` the node is unchanged.
     pub fn restart(&mut self) -> Result<Vec<Packet<V>>, Refusal>
         ensures outcome { IsCallResult self.old.node self.new.node (Ok (restarted self.old.node)) result }
         ensures posts { IfOk result (λ posts. AllByRecursion (IsPost (length self.old.node.weights)) posts.items) }
@@ -354,8 +357,8 @@ impl<V: Value> NodeCore<V> {
         Ok(posts)
     }
 
-    /// Restarts with a loaded record as the kept part, and returns posts as `restart` does. After `Memory` the node is
-    /// unchanged.
+    /// Restarts with a loaded record as the kept part, and returns posts as `restart` does. After
+    /// `Memory` the node is unchanged.
     pub fn reload(&mut self, stored: Record<V>) -> Result<Vec<Packet<V>>, Refusal>
         ensures outcome { IsCallResult self.old.node self.new.node (Ok (reloaded self.old.node stored.kept)) result }
         ensures posts { IfOk result (λ posts. AllByRecursion (IsPost (length self.old.node.weights)) posts.items) }

@@ -10,10 +10,11 @@ use indexmap::IndexMap;
 use std::alloc::{AllocError, Global};
 use std::marker::Model;
 
-/// The votes at slots where another ballot was counted first, in the order in which their ballots were first counted.
+/// The votes at slots where another ballot was counted first, in the order in which their ballots
+/// were first counted.
 ///
-/// A table by slot and ballot: counting a vote costs a constant number of look-ups, however many ballots have votes at
-/// the slot.
+/// A table by slot and ballot: counting a vote costs a constant number of look-ups, however many
+/// ballots have votes at the slot.
 #[derive(Drop)]
 pub struct OtherTallies {
     voters: IndexMap<(u32, Ballot), [bool; MAX_NODES]>,

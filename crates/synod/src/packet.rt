@@ -12,7 +12,8 @@ pub const PAGE_REPORTS: usize = 256;
 /// The maximum number of pages of one promise: enough to report every slot.
 pub const MAX_PAGES: u32 = 4096;
 
-/// A report of the entry that an acceptor accepted at a slot. A value of `None` is the no-operation.
+/// A report of the entry that an acceptor accepted at a slot. A value of `None` is the
+/// no-operation.
 #[derive(Drop)]
 pub struct SlotReport<V> {
     pub slot: u32,
@@ -76,8 +77,8 @@ pub(crate) fn copy_reports<V: Value>(
 
 /// The message of a packet.
 ///
-/// Source: Lamport, Paxos Made Simple, 2.2 and 2.3. A `Nack` is an acceptor's answer to a ballot that it refuses. An
-/// `Ask` asks for a learned value, and a `Told` passes it on.
+/// Source: Lamport, Paxos Made Simple, 2.2 and 2.3. A `Nack` is an acceptor's answer to a ballot
+/// that it refuses. An `Ask` asks for a learned value, and a `Told` passes it on.
 #[derive(Drop)]
 pub enum Body<V> {
     /// Phase 1(a), for every slot from `first` on.
@@ -85,7 +86,8 @@ pub enum Body<V> {
         ballot: Ballot,
         first: u32,
     },
-    /// Phase 1(b): page `page` of `count`, numbered from 1. The proposer stores it at index `page - 1`.
+    /// Phase 1(b): page `page` of `count`, numbered from 1. The proposer stores it at index
+    /// `page - 1`.
     Promise {
         ballot: Ballot,
         page: u32,

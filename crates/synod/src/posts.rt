@@ -9,7 +9,8 @@ use crate::value::{Value, copy_value};
 use crate::weights::Weights;
 use std::alloc::{AllocError, Global};
 
-/// A message to all nodes including the sender, or an Ask to all others. Each packet has its own copy of the value.
+/// A message to all nodes including the sender, or an Ask to all others. Each packet has its own
+/// copy of the value.
 #[derive(Drop)]
 pub enum Broadcast<'a, V> {
     Prepare {

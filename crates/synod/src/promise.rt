@@ -69,8 +69,8 @@ fn post_pages<V: Value>(
     Ok(posts)
 }
 
-/// Returns the packets of a promise: reports of the entries accepted from `first` on, in pages. `stored` is the record
-/// of the node.
+/// Returns the packets of a promise: reports of the entries accepted from `first` on, in pages.
+/// `stored` is the record of the node.
 ///
 /// Cost: the slots from `first` to the top of the record, and the reports.
 pub(crate) fn promise_posts<V: Value>(

@@ -1,5 +1,5 @@
-//! The pages of promises that a proposer has received, by node and then by index, from 0. The index of a page is one
-//! less than its number in the packet.
+//! The pages of promises that a proposer has received, by node and then by index, from 0. The index
+//! of a page is one less than its number in the packet.
 ghost use Rattle.std.specs.Prelude.{◌≡◌, ◌<◌, ◌≤◌, List, OnOk, IfOk, Some, None, MatchOption, length, slice_index_or};
 ghost use Rattle.slots.specs.declared.slots.TheConstants.{SLOTS};
 ghost use Rattle.slots.specs.FiniteMap.{entry_at, put_at, front_of};
@@ -112,8 +112,8 @@ impl<V: Drop> ReceivedPages<V> {
     }
 }
 
-/// Returns the index of the first missing page of a node once `page` is received. If it was received before, nothing
-/// changes.
+/// Returns the index of the first missing page of a node once `page` is received. If it was
+/// received before, nothing changes.
 pub(crate) fn first_missing_after<V: Drop>(pages: &ReceivedPages<V>, node: u8, page: u32) -> u32
     requires node { node < length pages.now }
     requires page { page < SLOTS }

@@ -69,7 +69,8 @@ pub enum ProposerUpdate<V> {
         page: u32,
         reports: Reports<V>,
     },
-    /// A page that was received before arrived again, and no page of its promise is missing: its sender is heard.
+    /// A page that was received before arrived again, and no page of its promise is missing: its
+    /// sender is heard.
     AddHeard(Heard),
     /// The page that completes a promise arrived.
     CompletePromise {
@@ -261,7 +262,8 @@ impl<V: Drop> Proposer<V> {
         self.heard.push_reserved(heard);
     }
 
-    /// Begins to lead: `next` is the slot of the next proposal, and the first `proposed` waiting values are removed.
+    /// Begins to lead: `next` is the slot of the next proposal, and the first `proposed` waiting
+    /// values are removed.
     fn lead(&mut self, ballot: Ballot, next: u32, proposed: usize)
         requires { proposed ≤ length self.old.state.waiting }
         ensures { self.new.state ≡ proposer_after self.old.state (Some (ProposerUpdate.Lead ballot next proposed)) }

@@ -42,7 +42,8 @@ impl<T> GhostValue<T> {
     }
 }
 
-/// A step of a node, ready to be committed. Contracts see the step, and the node as it was when it staged the step.
+/// A step of a node, ready to be committed. Contracts see the step, and the node as it was when it
+/// staged the step.
 #[derive(Drop)]
 pub struct Ready<V> {
     before: GhostValue<NodeCore<V>>,
@@ -79,8 +80,8 @@ impl<V: Drop> Ready<V> {
         }
     }
 
-    /// Returns the updates and the posts. It does not allocate. The updates can be committed to the node as it was when
-    /// it staged the step (`committable`).
+    /// Returns the updates and the posts. It does not allocate. The updates can be committed to the
+    /// node as it was when it staged the step (`committable`).
     pub(crate) fn into_staged(self) -> (StagedUpdates<V>, Vec<Packet<V>>)
         ensures committable { CanCommit self.before result.0 }
         ensures node { self.step.node ≡ staged_node self.before.node result.0 }

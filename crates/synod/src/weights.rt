@@ -90,7 +90,8 @@ impl Weights {
         &self.padded_weights[..self.count]
     }
 
-    /// Returns whether the marked nodes are a quorum: whether their weight is more than half of the total.
+    /// Returns whether the marked nodes are a quorum: whether their weight is more than half of the
+    /// total.
     pub fn is_quorum(&self, marks: &[bool]) -> bool
         requires { length self.now ≤ length marks.now }
         ensures { result ≡ is_quorum self.now (λ k. slice_index_or marks.now k false) }

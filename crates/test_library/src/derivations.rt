@@ -1,4 +1,5 @@
-//! Both proofs of the book's first theorem, normal and compressed, are correct, and the tree of each has 34 nodes.
+//! Both proofs of the book's first theorem, normal and compressed, are correct, and the tree of
+//! each has 34 nodes.
 ghost use Rattle.std.specs.Prelude.{◌≡◌, ◌∷◌, ◌++◌, []};
 ghost use Rattle.mm_read.specs.Statements.{AreShaped, Database};
 ghost use Rattle.scope.specs.Active.{bare};
@@ -49,13 +50,15 @@ fn node_count_of_last(alloc: Global, statements: &[Stmt], mandatory: &Words) -> 
     let mut scope = Scope::new(alloc);
     let mut frames = Frames::new(alloc);
     let node_count = node_count_in(alloc, statements, mandatory, &mut scope, &mut frames);
-    // An explicit `drop` is proved once for each type; a drop at the end of the scope would be proved here.
+    // An explicit `drop` is proved once for each type; a drop at the end of the scope would be
+    // proved here.
     drop(frames);
     drop(scope);
     node_count
 }
 
-/// Adds the statements to the scope and the frames, which are empty, and returns the number of nodes for the last one.
+/// Adds the statements to the scope and the frames, which are empty, and returns the number of
+/// nodes for the last one.
 fn node_count_in(
     alloc: Global,
     statements: &[Stmt],

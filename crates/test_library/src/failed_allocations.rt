@@ -1,4 +1,5 @@
-//! A submission during which an allocation fails has no verdict and changes nothing; submitted again, it has its usual verdict.
+//! A submission during which an allocation fails has no verdict and changes nothing; submitted
+//! again, it has its usual verdict.
 use crate::library_workers::verdict_by_workers;
 use crate::text_entries::{entry, verdict_on, with_new_library};
 use bytes::Bytes;
@@ -13,7 +14,8 @@ const REFUSED: &[u8] = b"$c |- $. p $a |- $. p $a |- $.";
 /// A text that is added.
 const GOOD: &[u8] = b"$c |- $. p $a |- $.";
 
-/// Successive texts, each with its serial number, its verdict, and the number of statements of the library after it.
+/// Successive texts, each with its serial number, its verdict, and the number of statements of the
+/// library after it.
 const CASES: [(u64, &[u8], Verdict, usize); 2] = [
     (
         1,
@@ -37,7 +39,8 @@ fn new_library_decides_texts(alloc: Global) -> bool {
     with_new_library(alloc, |library| decides_texts(alloc, library))
 }
 
-/// Returns whether each text has its verdict, and the library has the expected number of statements after it.
+/// Returns whether each text has its verdict, and the library has the expected number of statements
+/// after it.
 fn decides_texts(alloc: Global, library: &mut Library) -> bool {
     for (serial, text, verdict, count) in CASES {
         if !decides_text(alloc, library, serial, text, verdict)

@@ -36,8 +36,8 @@ const CASES: [(&[u8], Verdict); 6] = [
 /// Two correct proofs.
 const TWO_PROOFS: &[u8] = b"$c |- o $. a $a |- o $. p $p |- o $= a $. q $p |- o $= p $.";
 
-/// The results of the first proof have more than 2,000,000 symbols: more than a worker may hold, so the calling thread judges
-/// it.
+/// The results of the first proof have more than 2,000,000 symbols: more than a worker may hold, so
+/// the calling thread judges it.
 const HEAVY: &[u8] = b"$c |- w e $. $v x $. fx $f w x $. e0 $a w e $. d2 $a w x x $. \
     ${ h $e w x $. k $a |- e $. $} c0 $a |- e $. \
     p $p |- e $= ( e0 d2 k ) ABBBBBBBBBBBBBBBBBBBBZDC $. q $p |- e $= c0 $.";
@@ -115,8 +115,8 @@ fn long_text_judged_alike(rt: HostRuntime) -> Result<(), Fail> {
     Ok(())
 }
 
-/// Which of the proofs of the long text are wrong, by number from 0, and the verdict. The theorem of number n is the statement
-/// at position n + 3, since a `$c` and a `$a` precede the theorems.
+/// Which of the proofs of the long text are wrong, by number from 0, and the verdict. The theorem
+/// of number n is the statement at position n + 3, since a `$c` and a `$a` precede the theorems.
 /// Statement 8,193 is the last of the first part, whose proofs are judged ahead.
 const LONG_CASES: [(&[u64], Verdict); 4] = [
     (&[], Verdict::Added),

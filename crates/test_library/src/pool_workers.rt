@@ -1,4 +1,5 @@
-//! Two workers verify two correct proofs in parallel, each a job of `verify_pool`, also after a failed allocation.
+//! Two workers verify two correct proofs in parallel, each a job of `verify_pool`, also after a
+//! failed allocation.
 ghost use Rattle.std.specs.Prelude.{◌≡◌, ◌≤◌, ◌∷◌, ◌++◌, [], IsTrue};
 ghost use Rattle.mm_read.specs.Statements.{Database, AreShaped, IsShaped};
 ghost use Rattle.scope.specs.Active.{bare};
@@ -38,8 +39,9 @@ fn gate_two_jobs(rt: HostRuntime) {
     assert!(rt; rendezvous.has_not_timed_out());
 }
 
-/// Returns the answer of `check_all` for the proofs of a text: the index of the first wrong one, if one is wrong. Returns
-/// `None` in its place if the text does not read, a statement is not legal, or an allocation fails.
+/// Returns the answer of `check_all` for the proofs of a text: the index of the first wrong one, if
+/// one is wrong. Returns `None` in its place if the text does not read, a statement is not legal,
+/// or an allocation fails.
 fn answer_of<G: Gate + Sync, R: Threads + Sync>(
     rt: &R,
     alloc: Global,
@@ -69,7 +71,8 @@ fn first_wrong<G: Gate + Sync, R: Threads + Sync>(
     let mut frames = Frames::new(alloc);
     let mut jobs = Vec::new(alloc);
     let answer = first_wrong_in(rt, alloc, statements, workers, gate, &mut jobs, &mut frames);
-    // An explicit `drop` is proved once for each type; a drop at the end of the scope would be proved here.
+    // An explicit `drop` is proved once for each type; a drop at the end of the scope would be
+    // proved here.
     drop(jobs);
     drop(frames);
     answer
@@ -97,7 +100,8 @@ fn first_wrong_in<G: Gate + Sync, R: Threads + Sync>(
     }
 }
 
-/// Returns the index of the first job that is wrong, if one is. Repeats the call if an allocation fails.
+/// Returns the index of the first job that is wrong, if one is. Repeats the call if an allocation
+/// fails.
 fn check_with_retry<G: Gate + Sync, R: Threads + Sync>(
     rt: &R,
     alloc: Global,

@@ -1,14 +1,16 @@
-//! The items that proof tokens write, with numbers that the book gives as examples, and tokens that write no items.
+//! The items that proof tokens write, with numbers that the book gives as examples, and tokens that
+//! write no items.
 use mm_lex::Words;
 use mm_read::{Stmt, read};
 use numbers::push_number;
 use proof_code::{CodeFault, Items, is_compressed, normal, packed};
 use std::alloc::{AllocError, Global};
 
-/// Tokens of proofs, and the numbers of the items that they write where h1 to h130 are the mandatory labels. The number 0 is a
-/// mark, one up to the count of labels cites a label, and a greater one recalls a marked result.
-/// The labels of a compressed proof are the mandatory ones and then those in its parentheses; the
-/// labels of a normal proof are its tokens, one for each, so a label may be there twice.
+/// Tokens of proofs, and the numbers of the items that they write where h1 to h130 are the
+/// mandatory labels. The number 0 is a mark, one up to the count of labels cites a label, and a
+/// greater one recalls a marked result. The labels of a compressed proof are the mandatory ones and
+/// then those in its parentheses; the labels of a normal proof are its tokens, one for each, so a
+/// label may be there twice.
 const NUMBERS: [(&[u8], &[u32]); 4] = [
     (b"( ) TUAYTUUA", &[20, 21, 120, 121]),
     (b"( b ) A BZ U A U B ZC", &[1, 2, 0, 21, 22, 0, 3]),
@@ -65,7 +67,8 @@ fn is_long_word_refused(alloc: Global) -> bool {
     }
 }
 
-/// Returns the tokens of a compressed proof whose one word of letters is 100,000 times `U`, and then `A`.
+/// Returns the tokens of a compressed proof whose one word of letters is 100,000 times `U`, and
+/// then `A`.
 fn tokens_with_long_word(alloc: Global) -> Result<Vec<u8>, AllocError> {
     let mut word = vec![in alloc; b'U'; 100_000]?;
     word.extend_from_slice(b"A")?;
@@ -99,7 +102,8 @@ fn items_of(alloc: Global, tokens: &[u8]) -> Result<Items, CodeFault> {
     }
 }
 
-/// Returns the items that the tokens, of a compressed or a normal proof, write with these mandatory labels.
+/// Returns the items that the tokens, of a compressed or a normal proof, write with these mandatory
+/// labels.
 fn items_with_labels(alloc: Global, mandatory: &Words, tokens: &Words) -> Result<Items, CodeFault> {
     if is_compressed(tokens) {
         packed(alloc, tokens, mandatory)
@@ -108,7 +112,8 @@ fn items_with_labels(alloc: Global, mandatory: &Words, tokens: &Words) -> Result
     }
 }
 
-/// Returns a text of two statements: a `$c` of the labels h1 to h130, and a `$p` with the tokens as its proof.
+/// Returns a text of two statements: a `$c` of the labels h1 to h130, and a `$p` with the tokens as
+/// its proof.
 fn text_of(alloc: Global, tokens: &[u8]) -> Result<Vec<u8>, AllocError> {
     let mut text = Vec::new(alloc);
     push_text(&mut text, tokens)?;

@@ -45,7 +45,8 @@ pub fn push_statement(scope: &mut Scope, frames: &mut Frames, stmt: &Stmt) -> Op
     scope.add(stmt, &mut steps).ok()
 }
 
-/// Adds the statements, and returns the last one, or `None` if there is none, one is not legal, or an allocation fails.
+/// Adds the statements, and returns the last one, or `None` if there is none, one is not legal, or
+/// an allocation fails.
 pub fn push_statements<'a>(
     scope: &mut Scope,
     frames: &mut Frames,
@@ -63,7 +64,8 @@ pub fn push_statements<'a>(
     last
 }
 
-/// Returns the items that the tokens, of a compressed or a normal proof, write with these mandatory labels.
+/// Returns the items that the tokens, of a compressed or a normal proof, write with these mandatory
+/// labels.
 pub fn items_of(alloc: Global, tokens: &Words, mandatory: &Words) -> Result<Items, CodeFault> {
     if is_compressed(tokens) {
         packed(alloc, tokens, mandatory)

@@ -1,4 +1,5 @@
-//! A gate at which two threads meet: a worker passes the gate of its caller before each job (`verify_pool::Gate`).
+//! A gate at which two threads meet: a worker passes the gate of its caller before each job
+//! (`verify_pool::Gate`).
 use std::sync::atomic::{AtomicBool, Ordering};
 use verify_pool::{Gate, Place};
 
@@ -30,7 +31,8 @@ impl Rendezvous {
         !self.timed_out.load(Ordering::SeqCst)
     }
 
-    /// Records that `this` job has arrived, and waits until the `other` has, or gives up after `MAX_CHECKS`.
+    /// Records that `this` job has arrived, and waits until the `other` has, or gives up after
+    /// `MAX_CHECKS`.
     fn wait_for(&self, this: &AtomicBool, other: &AtomicBool) {
         this.store(true, Ordering::SeqCst);
         for _check in 0..MAX_CHECKS {

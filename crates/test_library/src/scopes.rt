@@ -19,7 +19,8 @@ fn copies_each(alloc: Global, text: &[u8]) -> bool {
     adds_each(alloc, &mut scope, text)
 }
 
-/// Returns whether the statements of the text are added to this scope, and it can be copied after each.
+/// Returns whether the statements of the text are added to this scope, and it can be copied after
+/// each.
 fn adds_each(alloc: Global, scope: &mut Scope, text: &[u8]) -> bool {
     match read(alloc, text) {
         Ok(statements) => adds_all(scope, statements.as_slice()),

@@ -25,8 +25,8 @@ fn images_are_substituted_at_once(rt: HostRuntime) {
     }
 }
 
-/// Returns whether substituting these images of x and y in an expression yields `expected`, also if the result is appended to a
-/// buffer.
+/// Returns whether substituting these images of x and y in an expression yields `expected`, also if
+/// the result is appended to a buffer.
 fn yields(
     alloc: Global,
     x: &[u32],
@@ -38,7 +38,8 @@ fn yields(
     yields_by(alloc, &mut subst, x, y, expr, expected)
 }
 
-/// Returns the same, with the images set in `subst`, which is empty at first. The first image of x is replaced by the second.
+/// Returns the same, with the images set in `subst`, which is empty at first. The first image of x
+/// is replaced by the second.
 fn yields_by(
     alloc: Global,
     subst: &mut Subst,
@@ -63,7 +64,8 @@ fn is_result(
     Ok(apply(alloc, subst, expr)?.as_slice() == expected)
 }
 
-/// Returns whether appending the result of the substitution to an empty buffer twice leaves `expected` there twice.
+/// Returns whether appending the result of the substitution to an empty buffer twice leaves
+/// `expected` there twice.
 fn is_appended(
     alloc: Global,
     subst: &Subst,

@@ -1,5 +1,5 @@
-//! The verdict on a text of the greatest length, and on one of one byte more. Also helpers that the tests share: entries of
-//! texts, and calls on a new library.
+//! The verdict on a text of the greatest length, and on one of one byte more. Also helpers that the
+//! tests share: entries of texts, and calls on a new library.
 use bytes::Bytes;
 use library::{Cause, Entry, Library, Submission, Verdict};
 use std::alloc::Global;
@@ -42,7 +42,8 @@ pub fn with_new_library<T, F: FnOnce(&mut Library) -> T>(alloc: Global, action: 
 {
     let mut library = Library::new(alloc);
     let answer = action(&mut library);
-    // An explicit `drop` is proved once for each type; a drop at the end of the scope would be proved here.
+    // An explicit `drop` is proved once for each type; a drop at the end of the scope would be
+    // proved here.
     drop(library);
     answer
 }

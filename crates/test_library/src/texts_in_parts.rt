@@ -1,5 +1,5 @@
-//! A text that several threads read in parts has as many statements as one thread reads, or the same fault, even if its
-//! comments contain `$.`.
+//! A text that several threads read in parts has as many statements as one thread reads, or the
+//! same fault, even if its comments contain `$.`.
 use mm_read::ReadFault;
 use read_pool::read_in_parts;
 use std::alloc::{AllocError, Global};
@@ -31,7 +31,8 @@ fn reads_all<R: Threads + Sync>(rt: &R, alloc: Global, workers: usize) -> bool {
     }
 }
 
-/// Returns whether this number of workers refuses a text whose last statement has no end, at the token after the last one.
+/// Returns whether this number of workers refuses a text whose last statement has no end, at the
+/// token after the last one.
 fn refuses_incomplete<R: Threads + Sync>(rt: &R, alloc: Global, workers: usize) -> bool {
     let Ok(mut text) = lines(alloc) else {
         return false;

@@ -2,7 +2,8 @@
 use mm_lex::{Span, tokens};
 use std::alloc::Global;
 
-/// Two tokens and a comment between them. The comment has the word `$(x`, which begins with `$(` and opens no comment.
+/// Two tokens and a comment between them. The comment has the word `$(x`, which begins with `$(`
+/// and opens no comment.
 const TEXT: &[u8] = b"$. $( hi $(x $) p";
 
 /// Where the two tokens begin and end.

@@ -18,8 +18,9 @@ const DISJOINT: &[u8] = b"$c wff |- R $. $v x y z $. wx $f wff x $. wy $f wff y 
     ${ $d x y $. ax $a |- x R y $. $} ${ h $e |- x R y $. r $a |- R x $. $} \
     ${ $d x z $. th $p |- R x $= wx wz wx wz ax r $. $}";
 
-/// A text, the number of statements before an assertion, and the assertion's frame: the positions of its mandatory hypotheses
-/// (counted from 1 in the whole text), its one group of disjoint variables, empty if it has none, and its conclusion.
+/// A text, the number of statements before an assertion, and the assertion's frame: the positions
+/// of its mandatory hypotheses (counted from 1 in the whole text), its one group of disjoint
+/// variables, empty if it has none, and its conclusion.
 const CASES: [(&[u8], usize, &[usize], &[u8], &[u8]); 5] = [
     (ARITHMETIC, 16, &[6, 7, 15, 16], b"", b"|- Q"),
     (
@@ -84,7 +85,8 @@ fn frame_of(alloc: Global, scope: &Scope, stmt: &Stmt) -> Option<Frame> {
     }
 }
 
-/// Returns whether the frame has these mandatory hypotheses, this one group (none if it is empty), and this conclusion.
+/// Returns whether the frame has these mandatory hypotheses, this one group (none if it is empty),
+/// and this conclusion.
 fn is_frame(frame: Option<Frame>, hypotheses: &[usize], group: &[u8], conclusion: &[u8]) -> bool {
     match frame {
         Some(frame) => {
@@ -96,7 +98,8 @@ fn is_frame(frame: Option<Frame>, hypotheses: &[usize], group: &[u8], conclusion
     }
 }
 
-/// Returns whether the variables of this text are the frame's only group, or the frame has no group if the text is empty.
+/// Returns whether the variables of this text are the frame's only group, or the frame has no group
+/// if the text is empty.
 fn is_only_group(frame: &Frame, text: &[u8]) -> bool {
     match frame.groups().first() {
         Some(group) => frame.groups().len() == 1 && group.as_text() == text,

@@ -1,4 +1,5 @@
-//! A keep that fails at one of its calls, three nodes of which the first uses it, and entries of texts.
+//! A keep that fails at one of its calls, three nodes of which the first uses it, and entries of
+//! texts.
 ghost use Rattle.std.specs.Prelude.{◌≡◌, ◌+◌};
 ghost use Rattle.synod.specs.Record.{new_kept};
 
@@ -20,8 +21,9 @@ pub fn entry(alloc: Global, serial: u64, text: &[u8]) -> Result<Entry, AllocErro
     }))
 }
 
-/// A keep in memory that fails once, after `calls_left` more calls, and then works again; it never fails by itself if
-/// `calls_left` is `None`. A store that fails leaves the new record if `leaves_new`, else the old one.
+/// A keep in memory that fails once, after `calls_left` more calls, and then works again; it never
+/// fails by itself if `calls_left` is `None`. A store that fails leaves the new record if
+/// `leaves_new`, else the old one.
 #[derive(Drop)]
 pub struct FailOnceKeep {
     keep: MemoryKeep<Carried>,

@@ -1,9 +1,10 @@
-//! A scenario in which node 2 learns the second entry of the log before the first, and then fills the gap. It is played by the
-//! calls of `cluster` that borrow a switch and cells, the values that `nodes` has under locks.
+//! A scenario in which node 2 learns the second entry of the log before the first, and then fills
+//! the gap. It is played by the calls of `cluster` that borrow a switch and cells, the values that
+//! `nodes` has under locks.
 //!
-//! Each cell applies the entries of its node's log, which ends at the first gap, and cells compare as the counts of their
-//! statements do. They also compare so if the keep of node 0 fails at one of its first 18 calls and the node restarts after
-//! any step.
+//! Each cell applies the entries of its node's log, which ends at the first gap, and cells compare
+//! as the counts of their statements do. They also compare so if the keep of node 0 fails at one of
+//! its first 18 calls and the node restarts after any step.
 
 use crate::fail_once_keep::{FailOnceKeep, entry, make_three_nodes, restart_first_node};
 use cluster::{
@@ -14,8 +15,8 @@ use net::StepFault;
 use std::alloc::Global;
 use world::Carried;
 
-/// A step of the scenario: at node 0 a ballot, or an offer of the text of a serial number; or a delivery of a packet by its
-/// number.
+/// A step of the scenario: at node 0 a ballot, or an offer of the text of a serial number; or a
+/// delivery of a packet by its number.
 #[derive(Clone, Copy)]
 enum Step {
     Begin,
@@ -53,7 +54,8 @@ fn the_gap_is_filled(rt: HostRuntime) {
 fn new_nodes_fill_gap(alloc: Global) -> Result<bool, StepFault> {
     let (mut switch, mut cells) = make_three_nodes(alloc, FailOnceKeep::new(alloc, None, false))?;
     let filled = steps_fill_gap(alloc, &mut switch, &mut cells);
-    // An explicit `drop` is proved once for each type; a drop at the end of the scope would be proved here.
+    // An explicit `drop` is proved once for each type; a drop at the end of the scope would be
+    // proved here.
     drop(cells);
     drop(switch);
     filled
@@ -79,7 +81,8 @@ fn all_steps_succeed(alloc: Global, switch: &mut Switch<Carried, FailOnceKeep>) 
         && begin_on(switch, 3) == Err(StepFault::NoNode)
 }
 
-/// Returns whether each cell adds as many statements as `expected_added` says of its node, and all agree.
+/// Returns whether each cell adds as many statements as `expected_added` says of its node, and all
+/// agree.
 fn cells_add_expected(
     switch: &Switch<Carried, FailOnceKeep>,
     cells: &mut Vec<NodeCell>,
@@ -92,7 +95,8 @@ fn cells_add_expected(
     Ok(all_agree(switch, cells))
 }
 
-/// Returns how many statements a node is expected to add: node 0 has learned the first entry, node 1 none, and node 2 both.
+/// Returns how many statements a node is expected to add: node 0 has learned the first entry, node
+/// 1 none, and node 2 both.
 fn expected_added(node: u8) -> usize {
     match node {
         0 => 1,
@@ -101,8 +105,8 @@ fn expected_added(node: u8) -> usize {
     }
 }
 
-/// Returns whether the cell takes over and applies all entries of its node's log, and then has `added` statements, none with a
-/// label.
+/// Returns whether the cell takes over and applies all entries of its node's log, and then has
+/// `added` statements, none with a label.
 fn adds_statements(
     cell: &mut NodeCell,
     switch: &Switch<Carried, FailOnceKeep>,
@@ -195,9 +199,9 @@ fn cells_agree_after_each_failure(rt: HostRuntime) {
     }
 }
 
-/// Returns whether all cells agree after the steps if the keep of node 0 fails after `calls_left` calls and the node restarts
-/// after the step of index `restart`. A step that fails is skipped. After each step, each cell takes over and applies the
-/// entries that its node has learned.
+/// Returns whether all cells agree after the steps if the keep of node 0 fails after `calls_left`
+/// calls and the node restarts after the step of index `restart`. A step that fails is skipped.
+/// After each step, each cell takes over and applies the entries that its node has learned.
 fn agrees(
     alloc: Global,
     calls_left: Option<u32>,

@@ -17,21 +17,23 @@ fn a_store_fails(rt: HostRuntime) {
     }
 }
 
-/// Returns whether the first node is down after its first store fails, and up again after it restarts. The failed store leaves
-/// the new record or the old one.
+/// Returns whether the first node is down after its first store fails, and up again after it
+/// restarts. The failed store leaves the new record or the old one.
 fn store_fails(alloc: Global, leaves_new: bool) -> Result<bool, StepFault> {
     let (mut switch, mut cells) = make_three_nodes(
         alloc,
         FailOnceKeep::new(alloc, Some(0), leaves_new),
     )?;
     let down = goes_down(&mut switch, &mut cells);
-    // An explicit `drop` is proved once for each type; a drop at the end of the scope would be proved here.
+    // An explicit `drop` is proved once for each type; a drop at the end of the scope would be
+    // proved here.
     drop(cells);
     drop(switch);
     down
 }
 
-/// Returns whether the keep of the first node fails as it begins a ballot, and the node is down until it restarts.
+/// Returns whether the keep of the first node fails as it begins a ballot, and the node is down
+/// until it restarts.
 fn goes_down(
     switch: &mut Switch<Carried, FailOnceKeep>,
     cells: &mut Vec<NodeCell>,
@@ -44,7 +46,8 @@ fn goes_down(
     )
 }
 
-/// Returns whether the node asked both others for the first entry when it restarted, and its next ballot is its second.
+/// Returns whether the node asked both others for the first entry when it restarted, and its next
+/// ballot is its second.
 fn is_up_again(switch: &mut Switch<Carried, FailOnceKeep>) -> Result<bool, StepFault> {
     let asked = matches!(switch.history(), [Event::Begin(0), Event::Restart(0)])
         && is_ask_for_first(switch, 3, 1)?
@@ -96,7 +99,8 @@ fn load_fails(alloc: Global) -> Result<bool, StepFault> {
     Ok(restarted)
 }
 
-/// Returns whether the first restart meets the failure, and the second one is taken and stands alone in the history.
+/// Returns whether the first restart meets the failure, and the second one is taken and stands
+/// alone in the history.
 fn restarts_twice(switch: &mut Switch<Carried, FailOnceKeep>, cells: &mut Vec<NodeCell>) -> bool {
     restart_first_node(switch, cells) == Err(StepFault::Device)
         && restart_first_node(switch, cells) == Ok(2)

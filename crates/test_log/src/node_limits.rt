@@ -28,12 +28,13 @@ fn the_log_may_be_full(rt: HostRuntime) {
     assert!(rt; fills_its_log(rt.alloc()) == Some(true));
 }
 
-/// Returns whether the only node of a system, which begins a ballot and receives a promise with a value at the last slot,
-/// proposes at each slot, and then refuses an offer, since its log is full.
+/// Returns whether the only node of a system, which begins a ballot and receives a promise with a
+/// value at the last slot, proposes at each slot, and then refuses an offer, since its log is full.
 fn fills_its_log(alloc: Global) -> Option<bool> {
     let mut node = NodeCore::new(alloc, 0, Weights::equal(1));
     let filled = is_filled(alloc, &mut node);
-    // An explicit `drop` is proved once for each type; a drop at the end of the scope would be proved here.
+    // An explicit `drop` is proved once for each type; a drop at the end of the scope would be
+    // proved here.
     drop(node);
     filled
 }
@@ -47,7 +48,8 @@ fn is_filled(alloc: Global, node: &mut NodeCore<Number>) -> Option<bool> {
     Some(proposed == SLOTS as usize && node.offer(Number(2)).err() == Some(Refusal::LogFull))
 }
 
-/// Returns how many packets the node posts when it receives a promise that reports a value at the last slot.
+/// Returns how many packets the node posts when it receives a promise that reports a value at the
+/// last slot.
 fn proposals_after_report(alloc: Global, node: &mut NodeCore<Number>) -> Option<usize> {
     if node.node_count() == 0 {
         return None;

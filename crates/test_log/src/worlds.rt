@@ -1,4 +1,5 @@
-//! A world of entries: a whole list of events in one call, and an application after a failed allocation.
+//! A world of entries: a whole list of events in one call, and an application after a failed
+//! allocation.
 use crate::fail_once_keep::entry;
 use library::Entry;
 use net::{Event, StepFault};
@@ -6,8 +7,8 @@ use std::alloc::{AllocError, Global};
 use synod::Weights;
 use world::{World, run};
 
-/// The packets that are delivered in the scenario of `gap`: those of the ballot, and after both offers the accepts to nodes 0
-/// and 1 and four votes on them.
+/// The packets that are delivered in the scenario of `gap`: those of the ballot, and after both
+/// offers the accepts to nodes 0 and 1 and four votes on them.
 const DELIVERED: [[u64; 4]; 3] = [[0, 1, 3, 4], [5, 6, 8, 9], [11, 14, 19, 22]];
 
 #[test]
@@ -15,8 +16,8 @@ fn events_are_run(rt: HostRuntime) {
     assert!(rt; runs_to_its_end(rt.alloc()) == Ok(true));
 }
 
-/// Returns whether all events up to the gap are taken, also if a delivery of a packet that does not exist follows, which is
-/// refused.
+/// Returns whether all events up to the gap are taken, also if a delivery of a packet that does not
+/// exist follows, which is refused.
 fn runs_to_its_end(alloc: Global) -> Result<bool, AllocError> {
     let runs = runs_all(alloc, events_up_to_gap(alloc)?);
     let stops = stops_at_last(alloc, events_with_unknown_packet(alloc)?);
@@ -28,7 +29,8 @@ fn runs_all(alloc: Global, events: Vec<Event<Entry>>) -> bool {
     match run(alloc, Weights::equal(3), events) {
         Ok(world) => {
             let taken = world.history().len() == 15;
-            // An explicit `drop` is proved once for each type; a drop at the end of the scope would be proved here.
+            // An explicit `drop` is proved once for each type; a drop at the end of the scope would
+            // be proved here.
             drop(world);
             taken
         }
@@ -91,13 +93,15 @@ fn push_deliveries(events: &mut Vec<Event<Entry>>, numbers: &[u64]) -> Result<()
     Ok(())
 }
 
-/// A node's library is as before after a failed allocation, and the next application returns the verdict.
+/// A node's library is as before after a failed allocation, and the next application returns the
+/// verdict.
 #[test]
 fn applies_after_a_failed_allocation(rt: HostRuntime) {
     assert!(rt; applies_if_learned(rt.alloc()));
 }
 
-/// Returns whether a world that learned two texts applies both; also true if there is no memory for a world.
+/// Returns whether a world that learned two texts applies both; also true if there is no memory for
+/// a world.
 fn applies_if_learned(alloc: Global) -> bool {
     match world_with_two_learned(alloc) {
         Ok(mut world) => {
@@ -109,7 +113,8 @@ fn applies_if_learned(alloc: Global) -> bool {
     }
 }
 
-/// Returns whether three calls, one of which may run out of memory, apply the two entries, and no entry is left then.
+/// Returns whether three calls, one of which may run out of memory, apply the two entries, and no
+/// entry is left then.
 fn applies_all(world: &mut World) -> bool {
     for _call in 0..3 {
         match world.apply_next(0) {
@@ -124,7 +129,8 @@ fn applies_all(world: &mut World) -> bool {
     world.apply_next(0) == Ok(None)
 }
 
-/// Returns a world of one node that has learned two texts of one author with the same serial number.
+/// Returns a world of one node that has learned two texts of one author with the same serial
+/// number.
 fn world_with_two_learned(alloc: Global) -> Result<World, StepFault> {
     let mut world = World::new(alloc, Weights::equal(1))?;
     learn_two(alloc, &mut world)?;

@@ -1,5 +1,6 @@
-//! A text submitted at the node that leads is added at each node, and their libraries are then the same, whether node 0 or
-//! node 1 leads; a cluster that is stopped still answers questions; a desk works in another thread.
+//! A text submitted at the node that leads is added at each node, and their libraries are then the
+//! same, whether node 0 or node 1 leads; a cluster that is stopped still answers questions; a desk
+//! works in another thread.
 use crate::three_nodes::{
     EntryKeep, is_added_by_all, same_weathers, start_three_nodes_with_open_gate, text_entry,
 };
@@ -68,8 +69,8 @@ fn serves_and_stops_at<R: Threads + Wait + Clock>(
     Ok(served? && stopped?)
 }
 
-/// Returns whether a text submitted at the leader is added at each node, also after a restart of node 2, and listed at node 1,
-/// and there is no node 3.
+/// Returns whether a text submitted at the leader is added at each node, also after a restart of
+/// node 2, and listed at node 1, and there is no node 3.
 fn serves<R: Wait + Clock>(
     rt: &R,
     alloc: Global,
@@ -86,7 +87,8 @@ fn serves<R: Wait + Clock>(
     )
 }
 
-/// Returns whether node 2, which learns the text again from the others after a restart, adds it again.
+/// Returns whether node 2, which learns the text again from the others after a restart, adds it
+/// again.
 fn has_text_after_restart<R: Wait + Clock>(
     rt: &R,
     desk: &Desk<OpenGate, EntryKeep>,
@@ -95,8 +97,8 @@ fn has_text_after_restart<R: Wait + Clock>(
     is_added_by_all(rt, desk, 1)
 }
 
-/// Stops the cluster. Returns whether each of the first two of its three nodes had taken an event, and it
-/// now refuses events and still answers questions.
+/// Stops the cluster. Returns whether each of the first two of its three nodes had taken an event,
+/// and it now refuses events and still answers questions.
 fn stops<R: Threads + Wait>(
     rt: &R,
     alloc: Global,
@@ -111,7 +113,8 @@ fn stops<R: Threads + Wait>(
     Ok(handled && has_stopped(rt, alloc, cluster, desk)?)
 }
 
-/// Returns whether node 1 lists the axiom p alone, and the libraries of nodes 0 and 2 have the same statements as its own.
+/// Returns whether node 1 lists the axiom p alone, and the libraries of nodes 0 and 2 have the same
+/// statements as its own.
 fn lists_axiom_and_agrees<R: Wait>(
     rt: &R,
     desk: &Desk<OpenGate, EntryKeep>,

@@ -36,7 +36,8 @@ fn verdict_of_three_nodes<R: Threads + Wait + Clock + Copy + Send + Sync + Drop 
     verdict_before_stop(rt, alloc, &mut cluster)
 }
 
-/// Returns the same for the nodes of this cluster. If an allocation fails in `stop`, it is called again.
+/// Returns the same for the nodes of this cluster. If an allocation fails in `stop`, it is called
+/// again.
 fn verdict_before_stop<R: Threads + Wait + Clock>(
     rt: &R,
     alloc: Global,

@@ -1,5 +1,5 @@
-//! Two nodes apply an entry in parallel: each waits at a gate until the other has arrived there. A node's thread passes the
-//! gate of its cluster before it applies an entry.
+//! Two nodes apply an entry in parallel: each waits at a gate until the other has arrived there. A
+//! node's thread passes the gate of its cluster before it applies an entry.
 use crate::three_nodes::{
     EntryKeep, is_added_by_all, same_weathers, start_three_nodes, submit_text,
 };
@@ -24,7 +24,8 @@ struct Rendezvous {
 }
 
 impl Rendezvous {
-    /// Records that `this` node has arrived, and waits until the `other` has, or gives up after a limited number of turns.
+    /// Records that `this` node has arrived, and waits until the `other` has, or gives up after a
+    /// limited number of turns.
     fn wait_for(&self, this: &AtomicBool, other: &AtomicBool) {
         this.store(true, Ordering::SeqCst);
         for turn in 0..1_000_000_000u32 {
@@ -55,8 +56,8 @@ fn gate_two_nodes(rt: HostRuntime) {
     assert!(rt; two_nodes_wait(&rt, rt.alloc()) == Ok(true));
 }
 
-/// Returns whether each of three nodes adds a text, and neither of the first two, which wait for each other at the gate, gives
-/// up waiting.
+/// Returns whether each of three nodes adds a text, and neither of the first two, which wait for
+/// each other at the gate, gives up waiting.
 fn two_nodes_wait<R: Threads + Wait + Clock + Copy + Send + Sync + Drop + 'static>(
     rt: &R,
     alloc: Global,

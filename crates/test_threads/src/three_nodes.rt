@@ -1,4 +1,5 @@
-//! Helpers that the tests share: three nodes with keeps in memory, texts, and polling of a desk until it answers.
+//! Helpers that the tests share: three nodes with keeps in memory, texts, and polling of a desk
+//! until it answers.
 ghost use Rattle.std.specs.Prelude.{◌≡◌, length, IfOk};
 
 use bytes::Bytes;
@@ -94,8 +95,8 @@ pub fn same_weathers<W: Weather + Copy>(alloc: Global, weather: W) -> Result<Vec
     Ok(weathers)
 }
 
-/// Returns the verdict at node `k` on the text of author 7 with that serial number, or `None` if it is not known after `polls`
-/// polls, a millisecond apart.
+/// Returns the verdict at node `k` on the text of author 7 with that serial number, or `None` if it
+/// is not known after `polls` polls, a millisecond apart.
 pub fn polled_verdict<G: Gate, R: Wait + Clock>(
     rt: &R,
     desk: &Desk<G, EntryKeep>,

@@ -1,4 +1,5 @@
-//! Repeated, delayed and lost hints, a restart, and a gap in one node's log that a later answer fills.
+//! Repeated, delayed and lost hints, a restart, and a gap in one node's log that a later answer
+//! fills.
 ghost use Rattle.std.specs.Prelude.{◌≡◌, length, IfOk};
 
 use crate::three_nodes::{
@@ -17,7 +18,8 @@ use std::time::{Clock, Duration};
 use synod::Weights;
 use verify_pool::{Gate, OpenGate};
 
-/// Passes, repeats and delays hints in turn. The number says what happens to the next one: 0 passes, 1 repeats, 2 delays it.
+/// Passes, repeats and delays hints in turn. The number says what happens to the next one: 0
+/// passes, 1 repeats, 2 delays it.
 #[derive(Clone, Copy)]
 struct CyclingWeather(u8);
 
@@ -61,12 +63,14 @@ fn nodes_answer_alike<R: Threads + Wait + Clock + Copy + Send + Sync + Drop + 's
 ) -> Result<bool, StepFault> {
     let mut library = Library::new(alloc);
     let served = nodes_answer_like_filled(rt, alloc, &mut library);
-    // An explicit `drop` is proved once for each type; a drop at the end of the scope would be proved here.
+    // An explicit `drop` is proved once for each type; a drop at the end of the scope would be
+    // proved here.
     drop(library);
     served
 }
 
-/// Applies the texts to this new library, and returns whether each of three nodes then answers like it.
+/// Applies the texts to this new library, and returns whether each of three nodes then answers like
+/// it.
 fn nodes_answer_like_filled<R: Threads + Wait + Clock + Copy + Send + Sync + Drop + 'static>(
     rt: &R,
     alloc: Global,
@@ -89,7 +93,8 @@ fn apply_one(library: &mut Library, entry: &Entry) -> Result<(), AllocError> {
     Ok(())
 }
 
-/// Returns whether each of three new nodes, at which the texts are submitted, answers like that library.
+/// Returns whether each of three new nodes, at which the texts are submitted, answers like that
+/// library.
 fn nodes_answer_like<R: Threads + Wait + Clock + Copy + Send + Sync + Drop + 'static>(
     rt: &R,
     alloc: Global,
@@ -254,7 +259,8 @@ fn applies_and_stops<R: Threads + Wait + Clock>(
     filled
 }
 
-/// Returns three weathers: those of nodes 0 and 1 share one setting, and that of node 2 has its own.
+/// Returns three weathers: those of nodes 0 and 1 share one setting, and that of node 2 has its
+/// own.
 fn settable_weathers(
     alloc: Global,
     first_two_setting: &Arc<AtomicU8>,
@@ -317,8 +323,9 @@ fn applies_at<R: Wait + Clock>(
 /// How many milliseconds the test waits for hints that are on their way.
 const TRANSIT_MILLIS: u64 = 100;
 
-/// Submits a text at node 0 and waits until nodes 0 and 1 have decided it; then waits `TRANSIT_MILLIS` for the hints on their
-/// way to node 2, which its weather loses or delays. Returns whether nodes 0 and 1 have added the text.
+/// Submits a text at node 0 and waits until nodes 0 and 1 have decided it; then waits
+/// `TRANSIT_MILLIS` for the hints on their way to node 2, which its weather loses or delays.
+/// Returns whether nodes 0 and 1 have added the text.
 fn submit_and_wait<R: Wait + Clock>(
     rt: &R,
     alloc: Global,

@@ -133,7 +133,8 @@ pub(crate) fn push_break(text: &mut Vec<u8>, at: GridPoint) -> Result<(), AllocE
     text.extend_from_slice(b"h14\"/>\n")
 }
 
-/// Appends a point; `class_attribute` is a whole attribute of the element with a space before it, or empty.
+/// Appends a point; `class_attribute` is a whole attribute of the element with a space before it,
+/// or empty.
 pub(crate) fn push_point(
     text: &mut Vec<u8>,
     at: GridPoint,

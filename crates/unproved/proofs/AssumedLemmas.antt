@@ -24,7 +24,8 @@ shaped-get (first ∷ S) (suc i) d less h =
     let w = and_parts (is_shaped first) (list_all is_shaped S) h in
     shaped-get S i d (omega (arith, less)) w.1
 
--- replacing the statement at the next position of the list leaves the later positions to be replaced
+-- replacing the statement at the next position of the list leaves the later positions to be
+-- replaced
 module _ (S : Database) (positions : List ℕ) (i : ℕ) (old new : Stmt) (less : i < length positions) (within : get_or positions i 0 - 1 < length S)
     (was : old ≡ get_or S (get_or positions i 0 - 1) old) (now : new ≡ as_axiom old) where
   pub assumed-on : assumed (slice_set S (get_or positions i 0 - 1) new) (drop (i + 1) positions) ≡ assumed S (drop i positions)

@@ -7,7 +7,8 @@ use Rattle.mm_read.specs.Statements.{Database}
 abbrev pub plains : Database → Database
 plains S = map as_axiom S
 
--- a function that is the same for a `$p` and the `$a` with its label and expression ignores `as_axiom`
+-- a function that is the same for a `$p` and the `$a` with its label and expression ignores
+-- `as_axiom`
 pub plain-same : {A : Type 0} (f : Stmt → A) → ((label : Name) (expr : Expr) (proof : List Name) → f (Axiom label expr) ≡ f (Prove label expr proof)) → (s : Stmt) → f (as_axiom s) ≡ f s
 plain-same f h (Prove label expr proof) = h label expr proof
 plain-same f h Open = refl

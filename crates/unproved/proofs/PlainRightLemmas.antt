@@ -1,4 +1,5 @@
--- A derivation is also one among statements that differ only in which assertions are `$a` and which are `$p`.
+-- A derivation is also one among statements that differ only in which assertions are `$a` and which
+-- are `$p`.
 use Rattle.unproved.proofs.Words.{◌≡◌, ℕ, IsTrue, List, [], ◌∷◌, map, Option, Some, None, option_map, unwrap_or, refl, list_all, ◌∙◌, ap, sym, subst, Name, Expr, before, expr_of, is_active, is_assertion, is_variable, label_of, stmt_at, Carries, IsHypothesis, IsInstance, expr_at, is_hypothesis_kind, option_expr, premises, are_groups_disjoint, hypotheses, mandatory_groups, Item, Concludes, ConcludeAll, Derivation, Derivations, hyp, apply, more, label_or_empty, IsRight, Spells, SpellsAll, cites_hypothesis, cites_assertion, recalls, marks, spells_none, spells_more, some-same, as_axiom}
 use Rattle.mm_read.specs.declared.stmt.Stmt.{Stmt}
 use Rattle.mm_read.specs.Statements.{Database}

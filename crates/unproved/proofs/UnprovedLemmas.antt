@@ -59,7 +59,8 @@ module _ (S : Database) where
   found_within end (Ok positions) are = all_within 0 end positions.items are
   found_within end (Err error) are = are
 
-  -- if the range after the first statements has no unproved `$p`, the list is complete up to its end
+  -- if the range after the first statements has no unproved `$p`, the list is complete up to its
+  -- end
   pub all-found : (start end : ℕ) (positions : List ℕ) (found : Option ℕ) → ((i : ℕ) → found ≡ Some i → ⊥) → start ≤ end → AreUnproved S 0 start positions → IsFirstUnprovedIn S start end found → AreUnproved S 0 end positions
   all-found start end positions None other order are least = none-more 0 start end positions order are (least-none start end least)
   all-found start end positions (Some i) other order are least = absurd (other i refl)

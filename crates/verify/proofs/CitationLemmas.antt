@@ -19,7 +19,8 @@ module _ (S : Database) (names : List Name) (at a : ℕ) (s : Stmt) (c : Asserti
   abbrev n : ℕ
   n = length c.hypotheses
 
-  -- the conclusion with images by number, decoded, is the assertion's expression with the images of the names
+  -- the conclusion with images by number, decoded, is the assertion's expression with the images of
+  -- the names
   conclusion-named : (ρ : CodeImages) → decode names (code_apply ρ c.conclusion.now) ≡ applied (images_of_names names ρ) (expr_of s)
   conclusion-named ρ = substitution_over_names names ρ c.conclusion.now legal.distinct (are-codes names c.conclusion.now is.conclusion_below) ∙ ap (applied (images_of_names names ρ)) is.conclusion
 

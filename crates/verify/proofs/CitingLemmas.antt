@@ -1,5 +1,6 @@
--- The results are the hypotheses of an assertion under some images if and only if each result for a `$f` begins with its
--- typecode, and each result for a `$e` is its expression under the images that are read from the results for the `$f`.
+-- The results are the hypotheses of an assertion under some images if and only if each result for a
+-- `$f` begins with its typecode, and each result for a `$e` is its expression under the images that
+-- are read from the results for the `$f`.
 use Rattle.verify.proofs.Words.{◌≡◌, ℕ, zero, suc, ◌<◌, Bool, true, false, cond, List, [], ◌∷◌, ◌++◌, length, map, drop, get_or, slice_get, Option, Some, None, option_map, ◌⊎◌, refl, sym, ◌∙◌, ap, subst, arith, inl, inr, true≢false, append-nil, lt-ltb, length-map, ext_get_or, get_or_from_slice_get, slice_get_within, slice_get-map, Name, Stmt, Expr, Database, stmt_at, before, expr_of, is_variable, name_at, decode, code_of, AreDistinct, code-name, hypotheses, mandatory_groups, Images, image, applied, CodeImages, code_image, images_of_names, AreImagesOfVariables, premises, expr_at, option_expr, are_groups_disjoint, AreBelow, AllBelow, AreOver, image-named, image-unnamed, image-decode, Hypothesis, Float, Essential, IsWellTyped, HasFloat, BeginsWithNoVariable, typecode_of, IsTypecode, IsNumberedHypothesis, AreNumberedHypotheses, IsTyped, AreRead, HypothesisMatches, HypothesesMatch, some-same, name_at-injective}
 use Rattle.mm_read.specs.declared.stmt.Stmt.TheVariants as stmt
 use Rattle.verify.proofs.Named.{all-at}

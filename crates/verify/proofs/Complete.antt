@@ -1,4 +1,5 @@
--- If items spell a derivation, the machine runs over them and leaves its conclusion on top, whatever lies below.
+-- If items spell a derivation, the machine runs over them and leaves its conclusion on top,
+-- whatever lies below.
 use Rattle.verify.proofs.Words.{◌≡◌, ℕ, zero, suc, ◌+◌, List, [], ◌∷◌, ◌++◌, length, Some, slice_get, refl, sym, ◌∙◌, ap, subst, append_assoc, append-nil, add_assoc, add-zero, Stmt, Expr, Database, expr_of, Images, applied, Item, Cite, Mark, Derivation, Derivations, hyp, apply, none, more, Concludes, ConcludeAll, IsInstance, premises, Carries, Spells, SpellsAll, cites_hypothesis, cites_assertion, recalls, marks, spells_none, spells_more, State, of_hypothesis, of_assertion, Runs, HasSingleResults, some-same}
 use Rattle.verify.proofs.Sound.{AllConclude, conclude_snoc}
 
@@ -62,7 +63,8 @@ module _ (S : Database) (at : ℕ) (single : HasSingleResults S at) where
   saved_result (u ∷ ts) (e ∷ es) (suc k) t p h = saved_result ts es k t p.1 h
 
   mutual
-    -- COMPLETE: if items spell a derivation, the machine runs over them and pushes its conclusion on any stack
+    -- COMPLETE: if items spell a derivation, the machine runs over them and pushes its conclusion
+    -- on any stack
     pub complete : {marked after : List Derivation} {items : List Item} {t : Derivation} {weight : ℕ} → Spells S at marked items t after weight
         → (saved : List Expr) → AllConclude S at marked saved → Result items t after weight saved
     complete (cites_hypothesis {i = i} s e carries active ends) saved kept =

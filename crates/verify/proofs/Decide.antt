@@ -4,7 +4,8 @@ use Rattle.mm_read.specs.declared.stmt.Stmt.TheVariants.{Float}
 use Rattle.verify.proofs.Sound.{Spelled, sound}
 use Rattle.verify.proofs.Complete.{state, Result, complete, conclude_instance, conclude_same}
 
--- if a list is split in two ways, and the second parts have the same length, the splits are the same
+-- if a list is split in two ways, and the second parts have the same length, the splits are the
+-- same
 pub append_cut : {A : Type 0} (b c x y : List A) → b ++ x ≡ c ++ y → length x ≡ length y → (b ≡ c) × (x ≡ y)
 append_cut [] [] x y e l = (refl, e)
 append_cut [] (v ∷ c) x y e l = absurd (omega (arith, ap length e, length-append c y, l))
@@ -29,7 +30,8 @@ module _ (S : Database) (at : ℕ) (single : HasSingleResults S at) (once : HasL
   carried_same : (i j : ℕ) (s r : Stmt) (label : Name) → Carries S i s label → Carries S j r label → s ≡ r
   carried_same i j s r label p q = some-same p.stands (ap (stmt_at S) (once i j s r label p q) ∙ q.stands)
 
-  -- instances of an assertion that take the last results of the same stack leave the same stack and give the same result
+  -- instances of an assertion that take the last results of the same stack leave the same stack and
+  -- give the same result
   assertions_same : (a a' : ℕ) (s s' : Stmt) (σ τ : Images) (stack b b' : List Expr) (e e' : Expr) → a ≡ a' → s ≡ s' → IsInstance S at a s σ → IsInstance S at a' s' τ
       → stack ≡ b ++ premises S a s σ → stack ≡ b' ++ premises S a' s' τ → e ≡ applied σ (expr_of s) → e' ≡ applied τ (expr_of s') → (b ≡ b') × (e ≡ e')
   assertions_same a a' s s' σ τ stack b b' e e' same_a same_s fits fits' whole whole' gives gives' =
@@ -94,7 +96,8 @@ module _ (S : Database) (at : ℕ) (single : HasSingleResults S at) (once : HasL
     pub one : end.stack ≡ goal ∷ []
     pub light : end.weight ≤ weight_limit
 
-  -- if items are right, the machine runs over them to the statement's expression alone, within the limit on the weight
+  -- if items are right, the machine runs over them to the statement's expression alone, within the
+  -- limit on the weight
   pub right_accepts : (items : List Item) (s : Stmt) → stmt_at S at ≡ Some s → IsRight S at items → Accepts items (expr_of s)
   right_accepts items s stands (t, d) =
       let r : Result S at single items t d.after d.weight [] = complete S at single d.spelled [] tt in
@@ -113,7 +116,8 @@ module _ (S : Database) (at : ℕ) (single : HasSingleResults S at) (once : HasL
 
   -- ---- the exits of the verifier
 
-  -- if all items were run and the stack is not the statement's expression alone, the items are not right
+  -- if all items were run and the stack is not the statement's expression alone, the items are not
+  -- right
   pub refuted_at_end : (items : List Item) (st : State) (s : Stmt) → stmt_at S at ≡ Some s → Runs S at start items st → (st.stack ≡ expr_of s ∷ [] → ⊥) → IsRight S at items → ⊥
   refuted_at_end items st s stands p other right =
       let a : Accepts items (expr_of s) = right_accepts items s stands right in

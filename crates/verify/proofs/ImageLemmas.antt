@@ -7,7 +7,8 @@ all-member p q (y ∷ xs) h =
     ap (λ b. b && list_all p xs) (h y (or_left (name_eq y y) (has_name y xs) (name_same y)))
     ∙ ap (λ b. q y && b) (all-member p q xs (λ x k. h x (or_right (name_eq x y) (has_name x xs) k)))
 
--- if the images of each symbol of an expression are the same, the substituted expressions are the same
+-- if the images of each symbol of an expression are the same, the substituted expressions are the
+-- same
 pub apply-members : (σ τ : Images) (e : Expr) → ((x : Name) → has_name x e ≡ true → image σ x ≡ image τ x) → applied σ e ≡ applied τ e
 apply-members σ τ [] h = refl
 apply-members σ τ (y ∷ e) h =

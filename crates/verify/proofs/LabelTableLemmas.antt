@@ -1,4 +1,5 @@
--- The table of the meanings of labels, and the search for a listed label among the mandatory hypotheses, whose positions rise.
+-- The table of the meanings of labels, and the search for a listed label among the mandatory
+-- hypotheses, whose positions rise.
 use Rattle.verify.proofs.Words.{◌≡◌, ℕ, suc, ◌+◌, ◌-◌, ◌<◌, Bool, true, false, nat_lt, List, [], ◌∷◌, ◌++◌, length, take, get_or, Option, Some, None, refl, zero, ◌≤◌, cond, ◌==◌, ◌||◌, filter, map, slice_index_or, MatchResult, Result, Ok, Err, drop, sym, ◌∙◌, ap, subst, arith, length-append, true≢false, append_assoc, get_or_default, take_more, length-drop, drop_more, list_any, IsNonDecreasing, nat_tests, bytes_eq-Decides, or_right, Name, name_eq, has_name, Stmt, Database, stmt_at, is_assertion, active_from, before, label_of, stays_open, Carries, IsHypothesis, is_hypothesis_kind, HasAssertion, hypotheses, is_hypothesis, HasLabelsOnce, IsPosition, ArePositions, IsCitable, LabelEntry, Nothing, Assertion, IsEntry, AreEntries, is_hypothesis_among, some-same, get-front, get-last, share_label, label_or_empty, mandatory_labels, IsProvable, or-false, get_or-append_right, get_or-map, length-map, get_or_from_slice_get, slice_get_within, slice_get, list_any-append, both_ways}
 use Rattle.verify.specs.declared.label_table.LabelEntry.TheVariants.{Hypothesis}
 use Rattle.verify.proofs.MandatoryEntries.{IsMandatory, AreMandatory, labels_at, mandatory-of}
@@ -143,7 +144,8 @@ pub label-among : (S : Database) (at : ℕ) (s : Stmt) (label : Name) (e : Label
 label-among S at s label e once p is =
     among-some S at label e (hypotheses (before S at) s) once is (mandatory-of S at s p) ∙ among (hypotheses (before S at) s) e
 
--- with one more listed label, a mandatory label is listed if one was before or the new label means a mandatory hypothesis
+-- with one more listed label, a mandatory label is listed if one was before or the new label means
+-- a mandatory hypothesis
 pub shared-more : (S : Database) (at : ℕ) (s : Stmt) (listed : List Name) (label : Name) (e : LabelEntry) → HasLabelsOnce S → IsProvable S at s → IsEntry S at label e
     → share_label (mandatory_labels S at s) (listed ++ label ∷ []) ≡ (share_label (mandatory_labels S at s) listed || is_hypothesis_among (hypotheses (before S at) s) e)
 shared-more S at s listed label e once p is =
@@ -216,7 +218,8 @@ found-is ps x (Err i) h = sym (none-is ps x (λ k less e. by k less e (nat_lt k 
 
 -- ---- the listed labels, one after another
 
--- the first n of the words are added to the table, and none of them is the label of a mandatory hypothesis
+-- the first n of the words are added to the table, and none of them is the label of a mandatory
+-- hypothesis
 pub record AreAdded (S : Database) (at : ℕ) (words left : List Name) (n : ℕ) (old table : List LabelEntry) : Type 0 where
   pub rest : drop n words ≡ left
   pub entries : (front : List Name) → AreEntries S at front old → AreEntries S at (front ++ take n words) table

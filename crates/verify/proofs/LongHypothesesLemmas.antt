@@ -1,4 +1,5 @@
--- What is left of a long `$e` has the same result: a symbol that is left out is a variable whose image is empty.
+-- What is left of a long `$e` has the same result: a symbol that is left out is a variable whose
+-- image is empty.
 use Rattle.std.specs.Prelude.{reverse, filter, ◌++◌, ◌||◌, ◌&&◌, nat_le, Result, Ok, Err, OnOk, is_ok}
 use Rattle.std.proofs.Common.{le-leb, inl, inr}
 use Rattle.std.proofs.lemmas.Bool.{cases_Bool}

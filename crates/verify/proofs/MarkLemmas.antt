@@ -12,7 +12,8 @@ pub no-mark : (n k : ℕ) → get_or (replicate n false) k false ≡ false
 no-mark (suc n) (suc k) = no-mark n k
 no-mark n k = refl
 
--- if a whole list is lent and comes back with the same length, it is replaced by the one that came back
+-- if a whole list is lent and comes back with the same length, it is replaced by the one that came
+-- back
 pub lent-whole : (n : ℕ) (s old : List Bool) → length s ≡ length old → n ≡ length old → take n (s ++ drop (length s) old) ≡ s
 lent-whole n s old same all =
     ap (λ r. take n (s ++ r)) (drop_all (length s) old (omega (arith, same))) ∙ (ap (take n) (append-nil s) ∙ take_all n s (omega (arith, same, all)))

@@ -1,4 +1,5 @@
--- A plan grows as a stack of derivations does; the extents of its derivations, and the derivation of a node.
+-- A plan grows as a stack of derivations does; the extents of its derivations, and the derivation
+-- of a node.
 use Rattle.verify.proofs.Words.{◌≡◌, ℕ, zero, suc, ◌+◌, ◌-◌, ◌<◌, ◌≤◌, true, false, List, [], ◌∷◌, ◌++◌, length, map, take, drop, get_or, slice_get, Some, refl, min, max, Vec, sym, ◌∙◌, ap, subst, arith, length-append, append_assoc, length-map, take-map, map_push, take_more, take_all, take-append-drop, length-take-le, slice_get_within, Global, Database, AreBelow, Recall, Node, TreePlan, Derivation, hyp, from_list, node_count, nodes_in, depth, depth_in, apply, Trees, trees, with_tree, Grew, below, top, pick, derive, built_from, built, IsAfter, AreOrdered, trees_of, IsPlan, get-front, get-last, below-more, below-push, below-at, Extent, extent_of, Hyp, Apply}
 use Rattle.verify.proofs.ResultPlaceLemmas.{map-drop, get-map-some}
 

@@ -9,7 +9,8 @@ results-same {A} a b c d w v p q r =
     let f : List (List A) → List (List A) → ℕ → Results A = λ s t n. record { stack = s; saved = t; weight = n } in
     ap (λ s. f s c w) p ∙ (ap (λ t. f b t w) q ∙ ap (λ n. f b d n) r)
 
--- the ranges stay within the buffer and the limit when the buffer and the weight grow by the same symbols
+-- the ranges stay within the buffer and the limit when the buffer and the weight grow by the same
+-- symbols
 pub grown-kept : (xs ys zs : List ℕ) (images : List (ℕ × SymbolRange)) (stack saved : List SymbolRange) (w v : ℕ) → AreResultRanges xs images stack saved w → zs ≡ xs ++ ys → v ≡ w + length ys → v ≤ weight_limit → AreResultRanges zs images stack saved v
 grown-kept xs ys zs images stack saved w v k e weighs light =
     let longer : length xs ≤ length zs = omega (arith, ap length e, length-append xs ys) in
@@ -178,7 +179,8 @@ seen_eq xs s e all k r q v l = ap (λ w. map (symbols_in xs) (take (length w - k
 pub last-within : (n k : ℕ) (s : List SymbolRange) → AreWithin n s → AreWithin n (take (length s - k) (drop k s))
 last-within n k s w = within-take n (length s - k) (drop k s) (within-drop n k s w)
 
--- each of the last r places, in a copy of the places, lies within the buffer and has the symbols of its result
+-- each of the last r places, in a copy of the places, lies within the buffer and has the symbols of
+-- its result
 pub seen_place : (xs : List ℕ) (s e : List SymbolRange) (all : List (List ℕ)) (k r i : ℕ) (d : SymbolRange) → e ≡ s → map (symbols_in xs) s ≡ all → k ≡ length s - r → r ≤ length all → i < r → AreWithin (length xs) s
     → (let p : SymbolRange = get_or (take (length e - k) (drop k e)) i d in ((p.start ≤ p.end) × (p.end ≤ length xs)) × (symbols_in xs p ≡ get_or (top r all) i []))
 seen_place xs s e all k r i d q v l h less w =

@@ -120,7 +120,8 @@ module _ (S : Database) (at : ℕ) where
       let s = b.stacked in
       record { marked = b.marked; stacked = pushed s.children below e (items ++ more_items) (st.weight + length e) s.spelled (subst (ConcludeAll S at s.children) same s.concluded) one last refl refl; kept = b.kept }
 
-  -- a citation pushes a result with a derivation: the hypothesis, or the assertion over the derivations of the results it takes
+  -- a citation pushes a result with a derivation: the hypothesis, or the assertion over the
+  -- derivations of the results it takes
   backed_cite : (items : List Item) (st : State) (label : Name) (below : List Expr) (e : Expr) → Backed items st → Cites S at label st.stack below e
       → Backed (items ++ Cite label ∷ []) (with_result st below e)
   backed_cite items st label below e b (of_hypothesis i s carries active same whole) =

@@ -44,7 +44,8 @@ module _ (S : Database) (names : List Name) (at : ℕ) (legal : HasLegalProperti
         (stops.stuck item (slice_get-get_or items done Mark less))
         (subst (IsRight S at) (sym (take-append-drop done items) ∙ ap (λ r. take done items ++ r) (drop_more items done Mark less)) right)
 
-    -- if all items are done, the items are right if and only if the result is the statement's expression alone
+    -- if all items are done, the items are right if and only if the result is the statement's
+    -- expression alone
     pub stops-right : (e : List ℕ) → length items ≤ done → decode names e ≡ expr_of s → st.stack ≡ e ∷ [] → st.weight ≤ weight_limit → IsRight S at items
     stops-right e all same one light = subst (IsRight S at) (take_all done items all) (right-end S names at legal (take done items) st s e stands reached same one light)
 

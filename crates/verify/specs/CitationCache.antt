@@ -1,8 +1,9 @@
--- The lists by which assertions are cited, and the facts on pairs of variables, that a checker keeps from proof to proof.
+-- The lists by which assertions are cited, and the facts on pairs of variables, that a checker
+-- keeps from proof to proof.
 -- Metamath, 4.2.6: the images of the two variables of each mandatory `$d` pair must be disjoint.
 -- The code keeps fewer lists of disjoint variables than the frame has; they have the same pairs.
 use Rattle.std.specs.Prelude.{◌≡◌, ℕ, ◌<◌, ◌==◌, Bool, ◌||◌, List, [], ◌∷◌, length, map, slice_get, Some}
-use Rattle.verify.specs.Words.{list_all, list_any, has_both, AssertionView, AllBelow, AreBelow, AreNumberedHypotheses, AreFacts, PairFact, are_groups_disjoint, mandatory_groups, decode, Name, Stmt, Database, Images, before, expr_of, hypotheses, stmt_at, Hypothesis}
+use Rattle.verify.specs.Words.{list_all, list_any, has_both, AssertionView, AllBelow, AreBelow, AreNumberedHypotheses, AreFacts, PairFact, are_groups_disjoint, mandatory_groups, decode, Name, Stmt, Database, Images, before, expr_of, hypotheses, stmt_at, Hypothesis, Numbered}
 
 -- ---- the pairs of lists
 
@@ -14,7 +15,8 @@ is_paired gs x y = x == y || list_any (has_both x y) gs
 abbrev pub are_covered : List (List ℕ) → List ℕ → Bool
 are_covered gs g = list_all (λ x. list_all (is_paired gs x) g) g
 
--- whatever the images are, they meet the disjoint variable condition of the lists gs if and only if they meet that of hs
+-- whatever the images are, they meet the disjoint variable condition of the lists gs if and only if
+-- they meet that of hs
 abbrev pub AreSameCondition : List (List ℕ) → List (List ℕ) → Type 0
 AreSameCondition gs hs = (names : List Name) (D : Database) (σ : Images) → are_groups_disjoint D σ (map (decode names) gs) ≡ are_groups_disjoint D σ (map (decode names) hs)
 
@@ -27,6 +29,10 @@ pub record IsCitingViewOf (S : Database) (names : List Name) (a : ℕ) (s : Stmt
   pub conclusion_below : AreBelow (length names) c.conclusion.now
   pub groups : (D : Database) (σ : Images) → are_groups_disjoint D σ (map (decode names) c.groups) ≡ are_groups_disjoint D σ (mandatory_groups (before S a) s)
   pub groups_below : AllBelow (length names) c.groups
+
+-- the assertion at a, if a statement is there, may be cited by the view c
+abbrev pub IsCitingViewAt : Numbered → ℕ → AssertionView → Type 0
+IsCitingViewAt frames a c = (s : Stmt) → stmt_at frames.statements a ≡ Some s → IsCitingViewOf frames.statements frames.names a s c
 
 -- ---- the lists and facts that are kept
 
@@ -51,6 +57,10 @@ pub record AreListsOf (S : Database) (names : List Name) (l : CitationLists) (s 
   pub disjoint : (D : Database) (σ : Images) → are_groups_disjoint D σ (map (decode names) l.groups) ≡ are_groups_disjoint D σ (mandatory_groups (before S l.position) s)
   pub below_names : AllBelow (length names) l.groups
 
+-- all lists that are made from this view are right for citations of the assertion at the position
+abbrev pub GivesListsAt : Database → List Name → ℕ → AssertionView → Type 0
+GivesListsAt S names position c = (lists : CitationLists) → AreMadeOf position c lists → (s : Stmt) → stmt_at S position ≡ Some s → AreListsOf S names lists s
+
 -- each of the lists is right for citations of its assertion
 abbrev pub AreKeptLists : Database → List Name → List CitationLists → Type 0
 AreKeptLists S names [] = Unit {0}
@@ -61,7 +71,8 @@ pub record HasListsAt (ls : List CitationLists) (i position : ℕ) : Type 0 wher
   pub within : i < length ls
   pub there : (l : CitationLists) → slice_get ls i ≡ Some l → l.position ≡ position
 
--- all that a checker keeps: the lists of some assertions, and the pairs of variables that were found to be disjoint or not
+-- all that a checker keeps: the lists of some assertions, and the pairs of variables that were
+-- found to be disjoint or not
 pub record CheckerCache : Type 0 where
   pub lists : List CitationLists
   pub facts : List PairFact

@@ -1,4 +1,5 @@
--- Derivations as data, and the derivation that a `Tree` of the code is: the tree without the addresses of its lists.
+-- Derivations as data, and the derivation that a `Tree` of the code is: the tree without the
+-- addresses of its lists.
 use Rattle.std.specs.Prelude.{ℕ, ◌+◌, max, List, [], ◌∷◌}
 use Rattle.verify.specs.declared.tree.Tree.{Tree}
 use Rattle.verify.specs.declared.tree.Tree.TheOpen.{Tree-F}
@@ -6,7 +7,8 @@ use Rattle.verify.specs.declared.tree.Tree.TheOpen as open_tree
 use Rattle.verify.specs.declared.tree.Tree.TheFolds.{fold-Tree}
 
 mutual
-  -- a hypothesis by its position, or an assertion by its position with a derivation of each of its mandatory hypotheses
+  -- a hypothesis by its position, or an assertion by its position with a derivation of each of its
+  -- mandatory hypotheses
   pub data Derivation : Type 0 where
     hyp : ℕ → Derivation
     apply : ℕ → Derivations → Derivation

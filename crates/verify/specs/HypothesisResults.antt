@@ -1,8 +1,11 @@
 -- The conditions on the results for the mandatory hypotheses of an assertion.
--- Metamath, 4.2.6: the symbols after the first one of the result for a `$f` are the image of its variable.
--- The code checks first symbols, reads the images from the results, and compares each `$e` under them with its result.
-use Rattle.std.specs.Prelude.{◌≡◌, ℕ, ◌<◌, ◌≤◌, Bool, true, false, List, [], ◌∷◌, length, drop, get_or, slice_get, Some}
-use Rattle.verify.specs.Words.{decode, Name, Stmt, Expr, Database, stmt_at, expr_of, Images, applied, CodeImages, code_image, expr_at, Hypothesis, Float, Essential, typecode_of}
+-- Metamath, 4.2.6: the symbols after the first one of the result for a `$f` are the image of its
+-- variable.
+-- The code checks first symbols, reads the images from the results, and compares each `$e` under
+-- them with its result.
+use Rattle.std.specs.Prelude.{◌≡◌, ℕ, ◌<◌, ◌≤◌, Bool, true, false, List, [], ◌∷◌, length, map, drop, get_or, slice_get, Some}
+use Rattle.verify.specs.Words.{decode, Name, Stmt, Expr, Database, stmt_at, expr_of, Images, applied, CodeImages, code_image, expr_at, Hypothesis, Float, Essential, typecode_of, Numbered, images_of_names}
+use Rattle.verify.specs.ResultPlaces.{HeldResults, top}
 
 -- the `$f` are of different variables
 pub record AreDifferent (hs : List Hypothesis) : Type 0 where
@@ -38,8 +41,8 @@ pub record IsTyped (typecode : ℕ) (r : List ℕ) : Type 0 where
   pub some : 0 < length r
   pub first : typecode_of r ≡ typecode
 
--- the result for each `$f` begins with its typecode, the image of its variable is the rest of the result, and no other symbol
--- has an image
+-- the result for each `$f` begins with its typecode, the image of its variable is the rest of the
+-- result, and no other symbol has an image
 pub record AreRead (typecodes : List ℕ) (hs : List Hypothesis) (rs : List (List ℕ)) (σ : CodeImages) : Type 0 where
   pub typed : (k x : ℕ) → slice_get hs k ≡ Some (Float x) → IsTyped (get_or typecodes k 0) (get_or rs k [])
   pub image : (k x : ℕ) → slice_get hs k ≡ Some (Float x) → code_image σ x ≡ drop 1 (get_or rs k [])
@@ -62,3 +65,15 @@ HypothesesMatchBefore n S σ hs rs = (k : ℕ) (h : Hypothesis) → k < n → sl
 -- each result for a `$e` is its expression with the images substituted
 pub record HypothesesMatch (S : Database) (σ : Images) (hs : List Hypothesis) (rs : List Expr) : Type 0 where
   pub each : (k : ℕ) (h : Hypothesis) → slice_get hs k ≡ Some h → HypothesisMatches S σ h (get_or rs k [])
+
+-- of the last results, one for each hypothesis, each result for a `$e` is its expression with the
+-- images substituted
+abbrev pub LastResultsMatch : Numbered → List Hypothesis → HeldResults → Type 0
+LastResultsMatch frames hs r =
+    HypothesesMatch frames.statements (images_of_names frames.names r.images) hs (map (decode frames.names) (top (length hs) r.results.stack))
+
+-- each result for a `$e` among the first n hypotheses is its expression with the images
+-- substituted, where the last results are those for the hypotheses
+abbrev pub LastResultsMatchBefore : ℕ → Numbered → List Hypothesis → HeldResults → Type 0
+LastResultsMatchBefore n frames hs r =
+    HypothesesMatchBefore n frames.statements (images_of_names frames.names r.images) hs (map (decode frames.names) (top (length hs) r.results.stack))

@@ -1,6 +1,7 @@
 -- The meanings of the labels of a proof.
 -- Metamath, 4.2.6: a proof cites active hypotheses and earlier assertions by their labels.
--- The code looks each label up once for a proof; many mandatory hypotheses are not looked up, but found by their index.
+-- The code looks each label up once for a proof; many mandatory hypotheses are not looked up, but
+-- found by their index.
 use Rattle.std.specs.Prelude.{◌≡◌, ◌==◌, ℕ, ◌<◌, Bool, false, List, [], length, map, get_or, Option, Some, None}
 use Rattle.verify.specs.Words.{list_any, Name, Stmt, Database, Carries, IsHypothesis}
 use Rattle.verify.specs.declared.label_table.LabelEntry.{LabelEntry}
@@ -9,7 +10,8 @@ use Rattle.verify.specs.declared.label_table.Mandatory.{Mandatory}
 use Rattle.verify.specs.declared.label_table.Mandatory.TheVariants.{Few, Many}
 use Rattle.verify.specs.Spells.{IsCitable}
 
--- the meaning of a label at `at`: an active hypothesis, an earlier assertion, or nothing that may be cited there
+-- the meaning of a label at `at`: an active hypothesis, an earlier assertion, or nothing that may
+-- be cited there
 abbrev pub IsEntry : Database → ℕ → Name → LabelEntry → Type 0
 IsEntry S at label (Hypothesis i) = (s : Stmt) × Carries S i s label × IsHypothesis S at i s
 IsEntry S at label (Assertion a) = (s : Stmt) × Carries S a s label × IsCitable S at a s

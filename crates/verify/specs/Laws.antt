@@ -1,6 +1,8 @@
 -- Laws: items run to a result if and only if they spell a derivation of it.
--- Metamath, 4.2.6 and appendix B: a proof is right if its stack ends with the statement's expression alone.
--- The code only runs; that its runs spell derivations, and that it misses none, is stated here over names.
+-- Metamath, 4.2.6 and appendix B: a proof is right if its stack ends with the statement's
+-- expression alone.
+-- The code only runs; that its runs spell derivations, and that it misses none, is stated here over
+-- names.
 use Rattle.std.specs.Prelude.{◌≡◌, ℕ, List, [], ◌∷◌, Some}
 use Rattle.verify.specs.Words.{Stmt, Expr, Database, stmt_at, before, Item, IsLegal, HasSingleResults}
 use Rattle.verify.specs.Derivations.{Derivation}
@@ -29,7 +31,8 @@ abbrev pub RunsSpell : Type 0
 RunsSpell = (S : Database) (at : ℕ) (items : List Item) (end : State) (e : Expr)
     → Runs S at start items end → end.stack ≡ e ∷ [] → IsSpelled S at items e end.weight
 
--- items that spell a derivation run to its conclusion, if an assertion's premises determine its conclusion
+-- items that spell a derivation run to its conclusion, if an assertion's premises determine its
+-- conclusion
 abbrev pub SpellingsRun : Type 0
 SpellingsRun = (S : Database) (at : ℕ) → HasSingleResults S at → (items : List Item) (t : Derivation) (after : List Derivation) (weight : ℕ)
     → Spells S at [] items t after weight → RunsTo S at items t weight

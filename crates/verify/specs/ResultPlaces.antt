@@ -20,7 +20,8 @@ results_in symbols stack saved weight = record { stack = map (symbols_in symbols
 abbrev pub held : List ℕ → List (ℕ × SymbolRange) → List SymbolRange → List SymbolRange → ℕ → Numbered → HeldResults
 held symbols images stack saved weight about = record { results = results_in symbols stack saved weight; images = images_at symbols images; about = about }
 
--- all ranges are in the buffer, which has no more symbols than the weight, and the weight is within the limit
+-- all ranges are in the buffer, which has no more symbols than the weight, and the weight is within
+-- the limit
 pub record AreResultRanges (symbols : List ℕ) (images : List (ℕ × SymbolRange)) (stack saved : List SymbolRange) (weight : ℕ) : Type 0 where
   pub images_inside : AreInside (length symbols) images
   pub stack_within : AreWithin (length symbols) stack
@@ -54,20 +55,22 @@ UnchangedUnlessDone false old new = new ≡ old
 
 -- the last result is saved as number k, from 0
 abbrev pub CachesLast : {A : Type 0} → Results A → Results A → ℕ → Type 0
-CachesLast {A} old new k = (stack : List (List A)) (e : List A) → old.stack ≡ stack ++ e ∷ [] → new ≡ record { stack = old.stack; saved = slice_set old.saved k e; weight = old.weight }
+CachesLast {A} old new k = (stack : List (List A)) (e : List A) → old.stack ≡ stack ++ e ∷ []
+    → new ≡ record { stack = old.stack; saved = slice_set old.saved k e; weight = old.weight }
 
 -- the last result was marked, or there is none
 abbrev pub Marks : {A : Type 0} → Bool → Results A → Results A → Type 0
 Marks {A} true old new = (stack : List (List A)) × (e : List A) × (old.stack ≡ stack ++ e ∷ []) × (new ≡ with_mark old e)
 Marks false old new = old.stack ≡ []
 
--- the saved result of number k, from 1, is pushed; or there is none, or the proof would be too heavy
+-- the saved result of number k, from 1, is pushed; or there is none, or the proof would be too
+-- heavy
 abbrev pub Recalls : {A : Type 0} → Bool → Results A → Results A → ℕ → Type 0
 Recalls {A} true old new k = (e : List A) × IsSaved old.saved k e × (new ≡ with_result old old.stack e)
 Recalls {A} false old new k = (e : List A) → IsSaved old.saved k e → weight_limit < old.weight + length e
 
--- the result saved at an index, from 0, is recalled, and has symbols if the index is a label's; or the index is a label's, and
--- nothing is done
+-- the result saved at an index, from 0, is recalled, and has symbols if the index is a label's; or
+-- the index is a label's, and nothing is done
 abbrev pub RecallsAt : {A : Type 0} → Option Bool → ℕ → Results A → Results A → ℕ → Type 0
 RecallsAt None label_count old new k = (k < label_count) × (new ≡ old)
 RecallsAt (Some ok) label_count old new k = (k < label_count → 0 < length (get_or old.saved k [])) × Recalls ok old new (suc k)

@@ -28,6 +28,11 @@ RunsItemByNumber false S at names item old new = (next : State) → RunsItem S a
 abbrev pub HasCited : Database → ℕ → List Name → LabelEntry → Results ℕ → Results ℕ → Bool → Type 0
 HasCited S at names entry old new ok = ((label : Name) → IsEntry S at label entry → RunsItemByNumber ok S at names (Cite label) old new) × (IsTrue ok → new.saved ≡ old.saved)
 
+-- in the context of a proof, a label with this meaning was cited, which saves nothing; or it cannot
+-- be cited within the limit
+abbrev pub HasCitedIn : ProofContext → LabelEntry → Results ℕ → Results ℕ → Bool → Type 0
+HasCitedIn context entry old new ok = HasCited context.frames.now.statements context.at context.frames.now.names entry old new ok
+
 -- ---- results that are cached for the labels of the table, saved before those that were marked
 
 -- the results without the n cached ones
@@ -49,9 +54,18 @@ pub record AreNamedAndCached (S : Database) (at : ℕ) (names : List Name) (tabl
   pub are_named : AreNamed names st
   pub cached : AreCached S at names table st.saved
 
+-- in the context of a proof, the codes have names, and the cached results are right
+abbrev pub AreNamedAndCachedIn : ProofContext → List LabelEntry → Results ℕ → Type 0
+AreNamedAndCachedIn context table st = AreNamedAndCached context.frames.now.statements context.at context.frames.now.names table st
+
 -- the effect of an item if the first saved results are cached for labels
 abbrev pub RunsItemWithTable : Bool → Database → ℕ → List Name → List LabelEntry → Item → Results ℕ → Results ℕ → Type 0
-RunsItemWithTable ok S at names table item old new = RunsItemByNumber ok S at names item (without_cached (length table) old) (without_cached (length table) new) × (IsTrue ok → AreNamedAndCached S at names table new)
+RunsItemWithTable ok S at names table item old new = RunsItemByNumber ok S at names item (without_cached (length table) old) (without_cached (length table) new)
+    × (IsTrue ok → AreNamedAndCached S at names table new)
+
+-- in the context of a proof, the effect of an item if the first saved results are cached for labels
+abbrev pub RunsItemIn : ProofContext → List LabelEntry → Item → Results ℕ → Results ℕ → Bool → Type 0
+RunsItemIn context table item old new ok = RunsItemWithTable ok context.frames.now.statements context.at context.frames.now.names table item old new
 
 -- ---- the requirements for running an item
 

@@ -1,6 +1,7 @@
 -- The derivation that the items of a proof spell.
 -- Metamath, appendix B: items in the order of a stack; a marked result may be recalled.
--- The code runs over the items once; here the items of a derivation begin with those of its children.
+-- The code runs over the items once; here the items of a derivation begin with those of its
+-- children.
 use Rattle.std.specs.Prelude.{◌≡◌, ℕ, suc, ◌+◌, ◌<◌, IsTrue, List, [], ◌∷◌, ◌++◌, length, Some, slice_get}
 use Rattle.verify.specs.Words.{Name, Stmt, Expr, Database, is_assertion, Carries, IsHypothesis, Item, Cite, Recall, Mark}
 use Rattle.verify.specs.Derivations.{Derivation, Derivations, hyp, apply, none, more}
@@ -12,8 +13,9 @@ pub record IsCitable (S : Database) (at a : ℕ) (s : Stmt) : Type 0 where
   pub assertion : IsTrue (is_assertion s)
 
 mutual
-  -- With the first list of derivations marked, the items spell the derivation, and leave the second list marked; the number
-  -- is the items' weight: the sum of the lengths of all conclusions of citations and recalls.
+  -- With the first list of derivations marked, the items spell the derivation, and leave the second
+  -- list marked; the number is the items' weight: the sum of the lengths of all conclusions of
+  -- citations and recalls.
   pub data Spells (S : Database) (at : ℕ) : List Derivation → List Item → Derivation → List Derivation → ℕ → Type 0 where
     cites_hypothesis : {marked : List Derivation} {i : ℕ} {label : Name}
         → (s : Stmt) (e : Expr) → Carries S i s label → IsHypothesis S at i s → Concludes S at (hyp i) e

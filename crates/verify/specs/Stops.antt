@@ -1,11 +1,13 @@
 -- Where a run over the items of a proof stops.
--- Metamath, 4.2.6 and appendix B: one item after another, from no results; the limit on the weight is this project's.
+-- Metamath, 4.2.6 and appendix B: one item after another, from no results; the limit on the weight
+-- is this project's.
 -- The code runs over the items once, up to the first that cannot be done.
 use Rattle.std.specs.Prelude.{◌≡◌, ℕ, ◌<◌, ◌≤◌, List, [], ◌∷◌, length, map, take, slice_get, Some}
 use Rattle.verify.specs.Words.{Name, Stmt, Database, stmt_at, expr_of, Item, decode}
 use Rattle.verify.specs.RunsItemByNumber.{named, AreNamed, without_cached}
 use Rattle.verify.specs.Machine.{Results, State, start, Runs, RunsItem}
 use Rattle.verify.specs.Right.{weight_limit}
+use Rattle.verify.specs.declared.citation.ProofContext.{ProofContext}
 use Rattle.verify.specs.declared.failure.Failure.{Failure}
 use Rattle.verify.specs.declared.failure.Failure.TheVariants as failure
 
@@ -17,16 +19,23 @@ pub record StopsAt (S : Database) (at : ℕ) (names : List Name) (items : List I
   pub are_named : AreNamed names st
   pub stuck : (item : Item) → slice_get items done ≡ Some item → (next : State) → RunsItem S at (named names st) item next → weight_limit < next.weight
 
+-- in the context of a proof, the first `done` items run to these results, and the next cannot be
+-- done within the limit
+abbrev pub StopsIn : ProofContext → List Item → ℕ → Results ℕ → Type 0
+StopsIn context items done st = StopsAt context.frames.now.statements context.at context.frames.now.names items done st
+
 -- the stack is not the expression alone
 abbrev pub IsNotOnly : List Name → Results ℕ → Stmt → Type 0
 IsNotOnly names st s = map (decode names) st.stack ≡ expr_of s ∷ [] → ⊥
 
--- the run stops after `done` items with these results, within the limit; the first `label_count` saved ones are cached for labels
+-- the run stops after `done` items with these results, within the limit; the first `label_count`
+-- saved ones are cached for labels
 pub record IsStopped (S : Database) (at : ℕ) (names : List Name) (items : List Item) (done label_count : ℕ) (st : Results ℕ) : Type 0 where
   pub stops : StopsAt S at names items done (without_cached label_count st)
   pub light : st.weight ≤ weight_limit
 
--- the first item that cannot be done and the results before it, or the results at the end, which are not the expression alone
+-- the first item that cannot be done and the results before it, or the results at the end, which
+-- are not the expression alone
 abbrev pub IsFirstFailure : Database → ℕ → List Name → List Item → Failure → Type 0
 IsFirstFailure S at names items (failure.Item item label_count results) = (item < length items) × IsStopped S at names items item label_count results.results
 IsFirstFailure S at names items (failure.End results) =

@@ -10,7 +10,7 @@ pub use Rattle.frame.specs.Disjoint.{are_groups_disjoint}
 pub use Rattle.frame.specs.FrameOf.{HasAssertion, hypotheses, mandatory_groups}
 pub use Rattle.frame.specs.PairFacts.{AreFacts}
 pub use Rattle.frame.specs.Parts.{Numbered}
-pub use Rattle.frame.specs.Substitution.{CodeImages, Images, apply as applied, code_image}
+pub use Rattle.frame.specs.Substitution.{CodeImages, Images, apply as applied, code_apply, code_image, images_of_names}
 pub use Rattle.frame.specs.declared.pair_facts.PairFact.{PairFact}
 pub use Rattle.mm_lex.specs.Alphabet.{Name}
 pub use Rattle.mm_read.specs.Statements.{Database, Expr}

@@ -7,7 +7,8 @@ use std::alloc::AllocError;
 /// Whether a proof is right.
 #[derive(Clone, Copy, Debug, Drop, PartialEq, Eq)]
 pub enum Answer {
-    /// The proof is right: its items spell a derivation of the statement, with a weight within the limit.
+    /// The proof is right: its items spell a derivation of the statement, with a weight within the
+    /// limit.
     Proved,
     /// The proof is not right.
     Wrong,
@@ -18,7 +19,8 @@ pub enum Answer {
 pub enum TreeFault {
     /// The proof is not right.
     Wrong,
-    /// The proof is right, but its derivation has more nodes or a greater depth than the limits allow.
+    /// The proof is right, but its derivation has more nodes or a greater depth than the limits
+    /// allow.
     TooLarge,
     /// An allocation failed.
     Memory,

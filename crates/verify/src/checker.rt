@@ -29,14 +29,15 @@ use subst::RemainingSymbols;
 /// the size): 1 MB for this many symbols.
 const KEPT_SIZE: usize = 262_144;
 
-/// A verifier that reuses its buffers from proof to proof. Contracts see the lists that it keeps, by which assertions are cited,
-/// and the pairs of variables that it found to be disjoint or not.
+/// A verifier that reuses its buffers from proof to proof. Contracts see the lists that it keeps,
+/// by which assertions are cited, and the pairs of variables that it found to be disjoint or not.
 #[derive(Drop)]
 pub struct Checker {
     /// Where its buffers are allocated.
     alloc: Global,
-    /// The size of the largest proof since memory was last freed. The size of a proof is its weight, or, if that is more, the
-    /// bytes of its tokens (in `prove`) or the number of its items (in `check`).
+    /// The size of the largest proof since memory was last freed. The size of a proof is its
+    /// weight, or, if that is more, the bytes of its tokens (in `prove`) or the number of its items
+    /// (in `check`).
     largest: usize,
     /// Reads the tokens of compressed proofs.
     reader: Reader,
@@ -77,8 +78,8 @@ impl Checker {
         }
     }
 
-    /// Removes the kept lists and the facts on pairs of variables, which are right only for the frames of earlier
-    /// proofs. After this call proofs under any frames may be checked.
+    /// Removes the kept lists and the facts on pairs of variables, which are right only for the
+    /// frames of earlier proofs. After this call proofs under any frames may be checked.
     ///
     /// Does not allocate. Cost: the lists and facts.
     pub fn clear_cache(&mut self)
@@ -88,8 +89,8 @@ impl Checker {
         self.buffers.kept.clear();
     }
 
-    /// Repeats some of the long searches for pairs of disjoint variables that were made since the last
-    /// such call. The frames keep the answers, so that later searches for these pairs, by any
+    /// Repeats some of the long searches for pairs of disjoint variables that were made since the
+    /// last such call. The frames keep the answers, so that later searches for these pairs, by any
     /// checker, are short.
     ///
     /// Cost: that of the searches, of which there are at most 128.
@@ -101,8 +102,8 @@ impl Checker {
         self.buffers.results.repeat_searches(frames);
     }
 
-    /// Limits the buffer of results to `symbols` symbols; at first the limit is `SYMBOLS_LIMIT`. The check of a proof that
-    /// would exceed it returns `AllocError`.
+    /// Limits the buffer of results to `symbols` symbols; at first the limit is `SYMBOLS_LIMIT`.
+    /// The check of a proof that would exceed it returns `AllocError`.
     pub fn set_symbol_limit(&mut self, symbols: usize) {
         self.buffers.results.set_symbol_limit(symbols);
     }
@@ -133,7 +134,8 @@ impl Checker {
 
     /// Returns whether the items are a right proof of the `$p` at that position.
     ///
-    /// Errors: an allocation fails, or the results would exceed the limit set by `set_symbol_limit`.
+    /// Errors: an allocation fails, or the results would exceed the limit set by
+    /// `set_symbol_limit`.
     /// Cost: each label is looked up once; a recall and a mark are one step; a citation costs the
     /// lengths of its result and of the results that it compares with a `$e`, and that of the
     /// disjoint variable condition; if the assertion has long lists (`CitationCache`) that are not
@@ -152,9 +154,11 @@ impl Checker {
 
     /// Returns whether the tokens write a right proof of the `$p` at that position.
     ///
-    /// Errors: an allocation fails, or the results would exceed the limit set by `set_symbol_limit`.
-    /// Cost: that of reading the tokens and checking their items; in a compressed proof a mandatory hypothesis is known
-    /// by its position, so its label is neither copied nor looked up. Source: Metamath, 4.2.6 and appendix B.
+    /// Errors: an allocation fails, or the results would exceed the limit set by
+    /// `set_symbol_limit`.
+    /// Cost: that of reading the tokens and checking their items; in a compressed proof a mandatory
+    /// hypothesis is known by its position, so its label is neither copied nor looked up. Source:
+    /// Metamath, 4.2.6 and appendix B.
     pub fn prove(
         &mut self,
         frames: &Frames,
@@ -191,9 +195,11 @@ impl Checker {
         check_by_table(frames, at, &self.table, numbers, &mut self.buffers)
     }
 
-    /// Returns whether the tokens write a right proof, in normal form, of the `$p` at that position.
+    /// Returns whether the tokens write a right proof, in normal form, of the `$p` at that
+    /// position.
     ///
-    /// Errors: an allocation fails, or the results would exceed the limit set by `set_symbol_limit`.
+    /// Errors: an allocation fails, or the results would exceed the limit set by
+    /// `set_symbol_limit`.
     fn prove_normal(
         &mut self,
         frames: &Frames,
@@ -216,7 +222,8 @@ impl Checker {
     /// Returns whether the tokens write a right proof, in compressed form, of the `$p` at that
     /// position. The `$p` has many mandatory hypotheses, which are read through a view.
     ///
-    /// Errors: an allocation fails, or the results would exceed the limit set by `set_symbol_limit`.
+    /// Errors: an allocation fails, or the results would exceed the limit set by
+    /// `set_symbol_limit`.
     #[cold]
     #[inline(never)]
     fn prove_by_view(
@@ -254,7 +261,8 @@ impl Checker {
     }
 }
 
-/// Returns whether the items are a right proof of the `$p` at that position, by a verifier made for this call.
+/// Returns whether the items are a right proof of the `$p` at that position, by a verifier made for
+/// this call.
 ///
 /// Errors: an allocation fails. Cost: that of `Checker::check`.
 pub fn check(alloc: Global, frames: &Frames, at: usize, items: &Items) -> Result<Answer, AllocError>

@@ -6,9 +6,8 @@ ghost use Rattle.frame.specs.FrameOf.{HasAssertion};
 ghost use Rattle.mm_lex.specs.Alphabet.{Name};
 ghost use Rattle.mm_read.specs.declared.stmt.Stmt.{Stmt as Statement};
 ghost use Rattle.proof_code.specs.ItemNumbers.{item_of};
-ghost use Rattle.scope.specs.Active.{stmt_at};
-ghost use Rattle.verify.specs.RunsItemByNumber.{AreNamedAndCached, AreNamed, RunsItemWithTable, HasCited, IsReady, MayCite};
-ghost use Rattle.verify.specs.CitationCache.{IsCacheFor, HasListsAt, IsCitingViewOf};
+ghost use Rattle.verify.specs.RunsItemByNumber.{AreNamedAndCachedIn, AreNamed, RunsItemIn, HasCitedIn, IsReady, MayCite};
+ghost use Rattle.verify.specs.CitationCache.{IsCacheFor, HasListsAt, IsCitingViewAt};
 ghost use Rattle.verify.specs.LabelTable.{AreEntries, IsEntry, viewed_entries};
 ghost use Rattle.verify.specs.ResultPlaces.{UnchangedUnlessDone};
 ghost use Rattle.verify.specs.declared.label_table.LabelEntry.TheVariants.{Hypothesis};
@@ -21,7 +20,8 @@ use frame::{FrameBuffers, Frames, MandatoryView, Pairs};
 use std::alloc::AllocError;
 use subst::RemainingSymbols;
 
-/// The context of a proof: the statements, the position of its `$p`, and the pairs of disjoint variables that are active there.
+/// The context of a proof: the statements, the position of its `$p`, and the pairs of disjoint
+/// variables that are active there.
 #[derive(Drop)]
 pub struct ProofContext<'a> {
     /// The statements.
@@ -39,14 +39,15 @@ pub struct Buffers {
     pub frame_buffers: FrameBuffers,
     /// The long lists that are kept, and facts on pairs of variables.
     pub kept: CitationCache,
-    /// For the symbols of a long expression that remain when those whose images are empty are left out.
+    /// For the symbols of a long expression that remain when those whose images are empty are left
+    /// out.
     pub remaining: RemainingSymbols,
     /// The results of the proof so far.
     pub results: Results,
 }
 
-/// Cites an assertion, given a view of it: pops the results for its hypotheses and pushes its result. Returns `false` if it
-/// cannot be cited.
+/// Cites an assertion, given a view of it: pops the results for its hypotheses and pushes its
+/// result. Returns `false` if it cannot be cited.
 ///
 /// Errors: an allocation fails.
 #[inline(always)]
@@ -58,8 +59,8 @@ fn cite_by_view(
     results: &mut Results,
 ) -> Result<bool, AllocError>
     requires may { MayCite context.now position results.old.about results.old.results }
-    requires cited { (s : Statement) → stmt_at context.now.frames.now.statements position ≡ Some s → IsCitingViewOf context.now.frames.now.statements context.now.frames.now.names position s cited.now }
-    ensures effect { IfOk result (HasCited context.now.frames.now.statements context.now.at context.now.frames.now.names (LabelEntry.Assertion position) results.old.results results.new.results) }
+    requires cited { IsCitingViewAt context.now.frames.now position cited.now }
+    ensures effect { IfOk result (HasCitedIn context.now (LabelEntry.Assertion position) results.old.results results.new.results) }
     ensures unchanged { IfOk result (λ ok. UnchangedUnlessDone ok results.old.results results.new.results) }
     ensures about { results.new.about ≡ context.now.pairs }
 {
@@ -98,7 +99,7 @@ fn cite_anew(
 ) -> Result<bool, AllocError>
     requires may { MayCite context.now position buffers.old.results.about buffers.old.results.results }
     requires kept { IsCacheFor context.now.frames.now.statements context.now.frames.now.names buffers.old.kept }
-    ensures effect { IfOk result (HasCited context.now.frames.now.statements context.now.at context.now.frames.now.names (LabelEntry.Assertion position) buffers.old.results.results buffers.new.results.results) }
+    ensures effect { IfOk result (HasCitedIn context.now (LabelEntry.Assertion position) buffers.old.results.results buffers.new.results.results) }
     ensures unchanged { IfOk result (λ ok. UnchangedUnlessDone ok buffers.old.results.results buffers.new.results.results) }
     ensures about { buffers.new.results.about ≡ context.now.pairs }
     ensures kept { IsCacheFor context.now.frames.now.statements context.now.frames.now.names buffers.new.kept }
@@ -113,8 +114,8 @@ fn cite_anew(
 
 /// Cites an assertion whose lists are long. Keeps them for later citations.
 ///
-/// Errors: an allocation fails. Cost: that of the citation; if the lists are not kept yet, also that of `Frames::fill_for_citing`
-/// and `CitationCache::keep`.
+/// Errors: an allocation fails. Cost: that of the citation; if the lists are not kept yet, also
+/// that of `Frames::fill_for_citing` and `CitationCache::keep`.
 #[cold]
 #[inline(never)]
 fn cite_kept(
@@ -124,7 +125,7 @@ fn cite_kept(
 ) -> Result<bool, AllocError>
     requires may { MayCite context.now position buffers.old.results.about buffers.old.results.results }
     requires kept { IsCacheFor context.now.frames.now.statements context.now.frames.now.names buffers.old.kept }
-    ensures effect { IfOk result (HasCited context.now.frames.now.statements context.now.at context.now.frames.now.names (LabelEntry.Assertion position) buffers.old.results.results buffers.new.results.results) }
+    ensures effect { IfOk result (HasCitedIn context.now (LabelEntry.Assertion position) buffers.old.results.results buffers.new.results.results) }
     ensures unchanged { IfOk result (λ ok. UnchangedUnlessDone ok buffers.old.results.results buffers.new.results.results) }
     ensures about { buffers.new.results.about ≡ context.now.pairs }
     ensures kept { IsCacheFor context.now.frames.now.statements context.now.frames.now.names buffers.new.kept }
@@ -144,8 +145,8 @@ fn cite_kept(
 
 /// Returns the index of the kept lists of an assertion. Makes them if they are not kept yet.
 ///
-/// Errors: an allocation fails. Cost: that of `CitationCache::find`; if the lists are not kept yet, of `Frames::fill_for_citing` and
-/// `CitationCache::keep`.
+/// Errors: an allocation fails. Cost: that of `CitationCache::find`; if the lists are not kept yet,
+/// of `Frames::fill_for_citing` and `CitationCache::keep`.
 fn kept_index(
     context: &ProofContext<'_>,
     position: usize,
@@ -178,7 +179,7 @@ fn cite_long(
 ) -> Result<bool, AllocError>
     requires may { MayCite context.now position buffers.old.results.about buffers.old.results.results }
     requires kept { IsCacheFor context.now.frames.now.statements context.now.frames.now.names buffers.old.kept }
-    ensures effect { IfOk result (HasCited context.now.frames.now.statements context.now.at context.now.frames.now.names (LabelEntry.Assertion position) buffers.old.results.results buffers.new.results.results) }
+    ensures effect { IfOk result (HasCitedIn context.now (LabelEntry.Assertion position) buffers.old.results.results buffers.new.results.results) }
     ensures unchanged { IfOk result (λ ok. UnchangedUnlessDone ok buffers.old.results.results buffers.new.results.results) }
     ensures about { buffers.new.results.about ≡ context.now.pairs }
     ensures kept { IsCacheFor context.now.frames.now.statements context.now.frames.now.names buffers.new.kept }
@@ -202,7 +203,7 @@ fn cite(
 ) -> Result<bool, AllocError>
     requires may { MayCite context.now position buffers.old.results.about buffers.old.results.results }
     requires kept { IsCacheFor context.now.frames.now.statements context.now.frames.now.names buffers.old.kept }
-    ensures effect { IfOk result (HasCited context.now.frames.now.statements context.now.at context.now.frames.now.names (LabelEntry.Assertion position) buffers.old.results.results buffers.new.results.results) }
+    ensures effect { IfOk result (HasCitedIn context.now (LabelEntry.Assertion position) buffers.old.results.results buffers.new.results.results) }
     ensures unchanged { IfOk result (λ ok. UnchangedUnlessDone ok buffers.old.results.results buffers.new.results.results) }
     ensures about { buffers.new.results.about ≡ context.now.pairs }
     ensures kept { IsCacheFor context.now.frames.now.statements context.now.frames.now.names buffers.new.kept }
@@ -229,7 +230,7 @@ fn cite_entry(
     requires entry { (label : Name) × IsEntry context.now.frames.now.statements context.now.at label entry }
     requires kept { IsCacheFor context.now.frames.now.statements context.now.frames.now.names buffers.old.kept }
     ensures about { buffers.new.results.about ≡ context.now.pairs }
-    ensures effect { IfOk result (HasCited context.now.frames.now.statements context.now.at context.now.frames.now.names entry buffers.old.results.results buffers.new.results.results) }
+    ensures effect { IfOk result (HasCitedIn context.now entry buffers.old.results.results buffers.new.results.results) }
     ensures unchanged { IfOk result (λ ok. UnchangedUnlessDone ok buffers.old.results.results buffers.new.results.results) }
     ensures kept { IsCacheFor context.now.frames.now.statements context.now.frames.now.names buffers.new.kept }
 {
@@ -253,12 +254,12 @@ pub fn step(
     buffers: &mut Buffers,
 ) -> Result<bool, AllocError>
     requires ready { IsReady context.now buffers.old.results.about }
-    requires named_and_cached { AreNamedAndCached context.now.frames.now.statements context.now.at context.now.frames.now.names table.now buffers.old.results.results }
+    requires named_and_cached { AreNamedAndCachedIn context.now table.now buffers.old.results.results }
     requires entries { (labels : List Name) × AreEntries context.now.frames.now.statements context.now.at labels table.now }
     requires kept { IsCacheFor context.now.frames.now.statements context.now.frames.now.names buffers.old.kept }
     ensures about { buffers.new.results.about ≡ context.now.pairs }
     ensures effect { (labels : List Name) → AreEntries context.now.frames.now.statements context.now.at labels table.now
-        → IfOk result (λ ok. RunsItemWithTable ok context.now.frames.now.statements context.now.at context.now.frames.now.names table.now (item_of labels number) buffers.old.results.results buffers.new.results.results) }
+        → IfOk result (RunsItemIn context.now table.now (item_of labels number) buffers.old.results.results buffers.new.results.results) }
     ensures unchanged { IfOk result (λ ok. UnchangedUnlessDone ok buffers.old.results.results buffers.new.results.results) }
     ensures kept { IsCacheFor context.now.frames.now.statements context.now.frames.now.names buffers.new.kept }
 {
@@ -290,12 +291,12 @@ pub fn run_item(
     buffers: &mut Buffers,
 ) -> Result<bool, AllocError>
     requires ready { IsReady context.now buffers.old.results.about }
-    requires named_and_cached { AreNamedAndCached context.now.frames.now.statements context.now.at context.now.frames.now.names table.now buffers.old.results.results }
+    requires named_and_cached { AreNamedAndCachedIn context.now table.now buffers.old.results.results }
     requires entries { (labels : List Name) × AreEntries context.now.frames.now.statements context.now.at labels (viewed_entries (option_map (λ v. v.now) view) ++ table.now) }
     requires kept { IsCacheFor context.now.frames.now.statements context.now.frames.now.names buffers.old.kept }
     ensures about { buffers.new.results.about ≡ context.now.pairs }
     ensures effect { (labels : List Name) → AreEntries context.now.frames.now.statements context.now.at labels (viewed_entries (option_map (λ v. v.now) view.entry) ++ table.now)
-        → IfOk result (λ ok. RunsItemWithTable ok context.now.frames.now.statements context.now.at context.now.frames.now.names table.now (item_of labels number) buffers.old.results.results buffers.new.results.results) }
+        → IfOk result (RunsItemIn context.now table.now (item_of labels number) buffers.old.results.results buffers.new.results.results) }
     ensures unchanged { IfOk result (λ ok. UnchangedUnlessDone ok buffers.old.results.results buffers.new.results.results) }
     ensures kept { IsCacheFor context.now.frames.now.statements context.now.frames.now.names buffers.new.kept }
 {
@@ -305,7 +306,8 @@ pub fn run_item(
     }
 }
 
-/// Runs one item, by its number, where the first numbers are those of the mandatory hypotheses, which a view finds by index.
+/// Runs one item, by its number, where the first numbers are those of the mandatory hypotheses,
+/// which a view finds by index.
 ///
 /// Errors: an allocation fails. Cost: that of `step`, and of finding the hypothesis by its index.
 #[cold]
@@ -318,12 +320,12 @@ fn step_by_view(
     buffers: &mut Buffers,
 ) -> Result<bool, AllocError>
     requires ready { IsReady context.now buffers.old.results.about }
-    requires named_and_cached { AreNamedAndCached context.now.frames.now.statements context.now.at context.now.frames.now.names table.now buffers.old.results.results }
+    requires named_and_cached { AreNamedAndCachedIn context.now table.now buffers.old.results.results }
     requires entries { (labels : List Name) × AreEntries context.now.frames.now.statements context.now.at labels (map Hypothesis view.now ++ table.now) }
     requires kept { IsCacheFor context.now.frames.now.statements context.now.frames.now.names buffers.old.kept }
     ensures about { buffers.new.results.about ≡ context.now.pairs }
     ensures effect { (labels : List Name) → AreEntries context.now.frames.now.statements context.now.at labels (map Hypothesis view.now ++ table.now)
-        → IfOk result (λ ok. RunsItemWithTable ok context.now.frames.now.statements context.now.at context.now.frames.now.names table.now (item_of labels number) buffers.old.results.results buffers.new.results.results) }
+        → IfOk result (RunsItemIn context.now table.now (item_of labels number) buffers.old.results.results buffers.new.results.results) }
     ensures unchanged { IfOk result (λ ok. UnchangedUnlessDone ok buffers.old.results.results buffers.new.results.results) }
     ensures kept { IsCacheFor context.now.frames.now.statements context.now.frames.now.names buffers.new.kept }
 {

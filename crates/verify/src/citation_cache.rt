@@ -14,8 +14,7 @@ ghost use Rattle.frame.specs.FrameOf.{HasAssertion};
 ghost use Rattle.mm_lex.specs.Alphabet.{Name};
 ghost use Rattle.mm_read.specs.Statements.{Database};
 ghost use Rattle.mm_read.specs.declared.stmt.Stmt.{Stmt as Statement};
-ghost use Rattle.scope.specs.Active.{stmt_at};
-ghost use Rattle.verify.specs.CitationCache.{IsCacheFor, AreListsOf, AreMadeOf, HasListsAt, CitationLists, AreSameCondition, are_covered, is_paired};
+ghost use Rattle.verify.specs.CitationCache.{IsCacheFor, AreMadeOf, GivesListsAt, HasListsAt, AreSameCondition, are_covered, is_paired};
 
 use crate::pair_places::{PairPlace, PairPlaces};
 use entries::buffer_part::between;
@@ -36,9 +35,9 @@ const MAX_NUMBERS: usize = 1_048_576;
 /// The part of `MAX_NUMBERS` that the count of an assertion's citations takes.
 const COUNT_SIZE: usize = 8;
 
-/// The lists by which an assertion is cited: its mandatory hypotheses, and lists of variables whose images must be disjoint.
-/// Each mandatory pair of variables is in one of these lists. A list is left out if all its pairs are recorded to be in others
-/// (`PairPlaces`).
+/// The lists by which an assertion is cited: its mandatory hypotheses, and lists of variables whose
+/// images must be disjoint. Each mandatory pair of variables is in one of these lists. A list is
+/// left out if all its pairs are recorded to be in others (`PairPlaces`).
 #[derive(Drop)]
 pub struct AssertionLists {
     /// The position of the assertion.
@@ -61,7 +60,12 @@ impl Model for AssertionLists {
 
     ghost Value = { CitationLists };
 
-    ghost view = { λ a. record { position = a.position; typecodes = a.typecodes.items; numbered_hypotheses = map decoded_hypothesis a.numbered_hypotheses.items; groups = cut a.grouped_variables.items a.groups.items } };
+    ghost view = { λ a. record {
+      position = a.position;
+      typecodes = a.typecodes.items;
+      numbered_hypotheses = map decoded_hypothesis a.numbered_hypotheses.items;
+      groups = cut a.grouped_variables.items a.groups.items;
+    } };
 
     ghost invariant = { λ a. AreSpansIn (length a.grouped_variables.items) a.groups.items };
 }
@@ -69,8 +73,8 @@ impl Model for AssertionLists {
 impl AssertionLists {
     /// Makes the lists of the assertion at a position from a view of it.
     ///
-    /// Errors: an allocation fails. Cost: the hypotheses, times a logarithm; the square of the number of their variables; and
-    /// for each group the square of the number of its variables.
+    /// Errors: an allocation fails. Cost: the hypotheses, times a logarithm; the square of the
+    /// number of their variables; and for each group the square of the number of its variables.
     fn from_view(
         alloc: Global,
         position: usize,
@@ -189,7 +193,8 @@ fn is_covered(groups: &Groups<'_>, group: &[u32], pairs: &PairPlaces) -> bool
     true
 }
 
-/// Returns whether the variable at an index of a group and each other one are recorded to be together in one of the groups.
+/// Returns whether the variable at an index of a group and each other one are recorded to be
+/// together in one of the groups.
 fn is_one_covered(groups: &Groups<'_>, group: &[u32], index: usize, pairs: &PairPlaces) -> bool
     requires { index < length group.now }
     ensures { result ≡ true → list_all (is_paired groups.now (get_or group.now index 0)) group.now ≡ true }
@@ -226,8 +231,9 @@ fn stands_at(group: &[u32], index: u32, x: u32) -> bool
     }
 }
 
-/// A cache for proofs under the same frames: the lists by which some assertions are cited, and the pairs of variables that were
-/// found to be disjoint or not when lists were made. Contracts see both.
+/// A cache for proofs under the same frames: the lists by which some assertions are cited, and the
+/// pairs of variables that were found to be disjoint or not when lists were made. Contracts see
+/// both.
 #[derive(Drop)]
 pub struct CitationCache {
     /// Where lists are allocated.
@@ -236,7 +242,8 @@ pub struct CitationCache {
     counts: BTreeMap<usize, usize>,
     /// How many numbers are kept.
     size: usize,
-    /// The index of the lists of the assertion at a position. It is only a guess: the lists at the index are checked.
+    /// The index of the lists of the assertion at a position. It is only a guess: the lists at the
+    /// index are checked.
     indexes: BTreeMap<usize, usize>,
     /// A buffer for the places of pairs in the lists that are being made.
     pairs: PairPlaces,
@@ -304,8 +311,8 @@ impl CitationCache {
         }
     }
 
-    /// Returns whether the lists of the assertion at a position, which are long, are to be kept; if not, counts one more citation
-    /// of it.
+    /// Returns whether the lists of the assertion at a position, which are long, are to be kept; if
+    /// not, counts one more citation of it.
     ///
     /// Cost: log n for n assertions whose citations are counted.
     pub fn count_citation(&mut self, position: usize) -> bool
@@ -343,7 +350,8 @@ impl CitationCache {
         &self.lists[index]
     }
 
-    /// Fills the buffers with the lists of the assertion at a position, for a citation by `Frames::citing_view`.
+    /// Fills the buffers with the lists of the assertion at a position, for a citation by
+    /// `Frames::citing_view`.
     ///
     /// Errors: an allocation fails. Cost: that of `Frames::fill_for_citing`.
     pub fn fill(
@@ -360,13 +368,13 @@ impl CitationCache {
         frames.fill_for_citing(position, &mut self.facts, frame_buffers)
     }
 
-    /// Makes and keeps the lists of an assertion, and returns their index. Removes all others first if too many numbers would
-    /// be kept.
+    /// Makes and keeps the lists of an assertion, and returns their index. Removes all others first
+    /// if too many numbers would be kept.
     ///
     /// Errors: an allocation fails. Cost: that of `AssertionLists::from_view`.
     pub fn keep(&mut self, position: usize, cited: &AssertionView<'_>) -> Result<usize, AllocError>
         ensures kept { (S : Database) (names : List Name) → IsCacheFor S names self.old
-            → ((lists : CitationLists) → AreMadeOf position cited.now lists → (s : Statement) → stmt_at S position ≡ Some s → AreListsOf S names lists s) → IsCacheFor S names self.new }
+            → GivesListsAt S names position cited.now → IsCacheFor S names self.new }
         ensures index { IfOk result (λ i. HasListsAt self.new.lists i position) }
     {
         let lists = AssertionLists::from_view(self.alloc, position, cited, &mut self.pairs)?;
@@ -377,7 +385,8 @@ impl CitationCache {
         Ok(index)
     }
 
-    /// Counts `size` more numbers. If there would be too many, removes all lists, facts and counts first.
+    /// Counts `size` more numbers. If there would be too many, removes all lists, facts and counts
+    /// first.
     fn make_room(&mut self, size: usize)
         ensures { (S : Database) (names : List Name) → IsCacheFor S names self.old → IsCacheFor S names self.new }
     {

@@ -8,7 +8,7 @@ ghost use Rattle.verify.specs.CitationCache.{IsCacheFor};
 ghost use Rattle.verify.specs.RunsItemByNumber.{IsReady, without_cached};
 ghost use Rattle.verify.specs.LabelTable.{AreEntries, viewed_entries};
 ghost use Rattle.verify.specs.Right.{IsProvable, IsRight};
-ghost use Rattle.verify.specs.Stops.{IsFirstFailure, StopsAt};
+ghost use Rattle.verify.specs.Stops.{IsFirstFailure, StopsIn};
 
 use crate::citation::{Buffers, ProofContext, run_item};
 use crate::citation_cache::CitationCache;
@@ -22,8 +22,9 @@ use subst::RemainingSymbols;
 /// Where the run over the items of a proof fails, and the results before it.
 #[derive(Drop)]
 pub enum Failure {
-    /// The item at this index, from 0, cannot be done, or it would make the proof too heavy. The first `label_count` saved
-    /// results are those cached for labels; those that were marked follow.
+    /// The item at this index, from 0, cannot be done, or it would make the proof too heavy. The
+    /// first `label_count` saved results are those cached for labels; those that were marked
+    /// follow.
     Item {
         item: usize,
         label_count: usize,
@@ -39,7 +40,8 @@ pub enum Failure {
 /// done. The table has the meanings of all labels or, if there is a view of the mandatory
 /// hypotheses, of the other labels.
 ///
-/// Errors: an allocation fails, or the results would exceed the limit set by `Results::set_symbol_limit`.
+/// Errors: an allocation fails, or the results would exceed the limit set by
+/// `Results::set_symbol_limit`.
 #[inline(always)]
 pub(crate) fn run_items(
     context: &ProofContext<'_>,
@@ -53,7 +55,7 @@ pub(crate) fn run_items(
     requires kept { IsCacheFor context.now.frames.now.statements context.now.frames.now.names buffers.old.kept }
     ensures kept { IsCacheFor context.now.frames.now.statements context.now.frames.now.names buffers.new.kept }
     ensures stops { (labels : List Name) → AreEntries context.now.frames.now.statements context.now.at labels (viewed_entries (option_map (λ v. v.now) view.entry) ++ table.now)
-        → IfOk result (λ done. StopsAt context.now.frames.now.statements context.now.at context.now.frames.now.names (items_of labels numbers.now) done (without_cached (length table.now) buffers.new.results.results)) }
+        → IfOk result (λ done. StopsIn context.now (items_of labels numbers.now) done (without_cached (length table.now) buffers.new.results.results)) }
 {
     buffers.results.start(&context.pairs, table.len())?;
     for (done, number) in numbers.iter().enumerate() {
@@ -64,7 +66,8 @@ pub(crate) fn run_items(
     Ok(numbers.len())
 }
 
-/// Returns where the run over the items fails as a proof of the `$p` at that position, or `None` if they are a right proof.
+/// Returns where the run over the items fails as a proof of the `$p` at that position, or `None` if
+/// they are a right proof.
 ///
 /// Errors: an allocation fails. Cost: that of `check`. Source: Metamath, 4.2.6 and appendix B.
 pub fn first_failure(

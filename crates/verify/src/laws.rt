@@ -1,4 +1,5 @@
-//! Laws about the definitions alone. Each is a function that does nothing and ensures a sentence of `specs/Laws`.
+//! Laws about the definitions alone. Each is a function that does nothing and ensures a sentence of
+//! `specs/Laws`.
 
 ghost use Rattle.verify.specs.Laws.{RunsSpell, SpellingsRun, SpelledOnce};
 
@@ -7,8 +8,8 @@ pub fn runs_spell()
     ensures { RunsSpell }
 {}
 
-/// Items that spell a derivation run to the expression that it concludes, with the same weight, if an assertion's premises
-/// determine its conclusion.
+/// Items that spell a derivation run to the expression that it concludes, with the same weight, if
+/// an assertion's premises determine its conclusion.
 pub fn spellings_run()
     ensures { SpellingsRun }
 {}

@@ -1,11 +1,14 @@
-//! The verifier: whether the items of a proof are a right proof of a statement, and the derivation that they spell.
+//! The verifier: whether the items of a proof are a right proof of a statement, and the derivation
+//! that they spell.
 //!
-//! The main contract is that of `Checker::prove`: it returns `Proved` if and only if the tokens write items that spell a
-//! derivation which concludes the statement's expression, with a weight (the symbols of all that they conclude) within the
-//! limit; else it returns `Wrong`. `check` does so for the items themselves; `first_failure` returns where their run fails.
+//! The main contract is that of `Checker::prove`: it returns `Proved` if and only if the tokens
+//! write items that spell a derivation which concludes the statement's expression, with a weight
+//! (the symbols of all that they conclude) within the limit; else it returns `Wrong`. `check` does
+//! so for the items themselves; `first_failure` returns where their run fails.
 //!
-//! Reading order: `answer`, `tree`; `results` (as ranges of one buffer), `label_table`, `pair_places`, `citation_cache`, `citation`
-//! (one item), `failure` (all items), `checker` (a whole proof); `plan` (the derivation); `laws`.
+//! Reading order: `answer`, `tree`; `results` (as ranges of one buffer), `label_table`,
+//! `pair_places`, `citation_cache`, `citation` (one item), `failure` (all items), `checker` (a
+//! whole proof); `plan` (the derivation); `laws`.
 #![tactic(auto)]
 
 mod answer;

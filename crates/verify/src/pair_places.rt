@@ -48,7 +48,8 @@ impl PairPlaces {
         }
     }
 
-    /// Removes all places, and numbers the variables of these hypotheses. If these are too many, no pair is recorded.
+    /// Removes all places, and numbers the variables of these hypotheses. If these are too many, no
+    /// pair is recorded.
     ///
     /// Errors: an allocation fails. Cost: the square of the number of variables.
     pub fn begin(&mut self, hypotheses: &Hypotheses<'_>) -> Result<(), AllocError> {
@@ -93,7 +94,8 @@ impl PairPlaces {
         Some(row.saturating_add(second))
     }
 
-    /// Returns the place that was recorded of the pair at these indexes of the list that was looked up.
+    /// Returns the place that was recorded of the pair at these indexes of the list that was looked
+    /// up.
     pub fn place(&self, first: usize, second: usize) -> PairPlace {
         match self.index(first, second) {
             Some(index) => match self.places.get(index) {

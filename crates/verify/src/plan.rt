@@ -1,7 +1,7 @@
 //! The derivation that the items of a proof spell.
 //!
-//! A plan of it is made first: numbered nodes, each after its children, and only once however often it is recalled. The plan
-//! is measured before the tree is made.
+//! A plan of it is made first: numbered nodes, each after its children, and only once however often
+//! it is recalled. The plan is measured before the tree is made.
 
 ghost use Rattle.std.specs.Prelude.{◌≡◌, ℕ, ◌<◌, ◌≤◌, ◌↔◌, [], IsTrue, List, OnOk, IfOk, Some, length, map, slice_get, ◌⊎◌, MatchOption};
 ghost use Rattle.frame.specs.AtPosition.{HasLabelsOnce};
@@ -133,7 +133,8 @@ pub fn grow(
     Ok(true)
 }
 
-/// The number of nodes of a derivation and its depth, each counted no further than one above its limit.
+/// The number of nodes of a derivation and its depth, each counted no further than one above its
+/// limit.
 #[derive(Clone, Copy, Drop)]
 pub struct Extent {
     /// The number of nodes.

@@ -1,6 +1,6 @@
 //! The results of a proof so far, as ranges of one buffer.
 
-ghost use Rattle.std.specs.Prelude.{take, true, List, ℕ, ◌≡◌, suc, ◌<◌, ◌≤◌, ◌↔◌, ◌∷◌, ◌++◌, [], length, map, get_or, slice_get, replicate, nat_eq, ◌==◌, Some, is_some, if◌then◌else◌, IfOk, IfSome, MatchOption, OnOk, OnErr, IsTrue};
+ghost use Rattle.std.specs.Prelude.{take, true, List, ℕ, ◌≡◌, suc, ◌<◌, ◌≤◌, ◌↔◌, ◌∷◌, ◌++◌, [], length, get_or, slice_get, replicate, nat_eq, ◌==◌, Some, is_some, if◌then◌else◌, IfOk, IfSome, OnOk, OnErr, IsTrue};
 ghost use Rattle.mm_read.specs.declared.stmt.Stmt.{Stmt as Statement};
 ghost use Rattle.entries.specs.PositionSets.{Ascends};
 ghost use Rattle.frame.specs.AtPosition.{HasLegalProperties};
@@ -8,20 +8,19 @@ ghost use Rattle.frame.specs.Below.{AllBelow, AreBelow};
 ghost use Rattle.frame.specs.Disjoint.{are_groups_disjoint};
 ghost use Rattle.frame.specs.FrameOf.{HasAssertion};
 ghost use Rattle.frame.specs.Stored.Hypotheses.{In};
-ghost use Rattle.frame.specs.Substitution.{code_apply, images_of_names};
+ghost use Rattle.frame.specs.Substitution.{code_apply};
 ghost use Rattle.mm_lex.specs.Alphabet.{Name};
 ghost use Rattle.mm_read.specs.Statements.{Expr};
 ghost use Rattle.mm_read.specs.declared.stmt.Stmt.TheVariants.{Ess};
-ghost use Rattle.names.specs.Codes.{AreDistinct, decode};
+ghost use Rattle.names.specs.Codes.{AreDistinct};
 ghost use Rattle.std.specs.Map.{lookup};
-ghost use Rattle.subst.specs.Images.{AreOver};
+ghost use Rattle.subst.specs.Images.{AreOver, are_numbered_groups_disjoint};
 ghost use Rattle.entries.specs.declared.assertion_view.Hypothesis.TheVariants.{Float};
 ghost use Rattle.subst.specs.SymbolRanges.{AreInside, AreWithin, images_at, symbols_in};
-ghost use Rattle.subst.specs.RemainingSymbols.{has_nonempty_image};
-ghost use Rattle.verify.specs.HypothesisResults.{AreDifferent, AreLeadingFloats, ArePresent, HypothesesMatch, HypothesesMatchBefore, IsExprAt, Reads};
-ghost use Rattle.verify.specs.LongHypotheses.{AreListed, AreHypothesesOf, AreRemaining, IsListed};
+ghost use Rattle.verify.specs.HypothesisResults.{AreDifferent, AreLeadingFloats, ArePresent, IsExprAt, LastResultsMatch, LastResultsMatchBefore, Reads};
+ghost use Rattle.verify.specs.LongHypotheses.{AreListed, AreHypothesesOf, AreRemaining, IsListed, IsListedIfNonempty, RemainingSuffice};
 ghost use Rattle.verify.specs.Machine.{IsSaved, with_mark, with_result};
-ghost use Rattle.verify.specs.ReadPlaces.{BeginsWith, IsMistyped, ReadTo, ReadsAll, tail_of};
+ghost use Rattle.verify.specs.ReadPlaces.{BeginsWith, ReadsAll, ReadsLeading, tail_of};
 ghost use Rattle.verify.specs.ResultPlaces.{Adds, RecallsAt, CachesLast, Marks, UnchangedUnlessDone, below, top};
 ghost use Rattle.verify.specs.Right.{weight_limit};
 
@@ -49,7 +48,8 @@ pub struct Results {
     /// range. Such a result is written once, at the first citation of its label. Then the results
     /// that were marked.
     saved: Vec<SymbolRange>,
-    /// The number of symbols of all results that were pushed so far, also of those that were popped; a recall pushes one.
+    /// The number of symbols of all results that were pushed so far, also of those that were
+    /// popped; a recall pushes one.
     weight: usize,
     /// How many symbols the buffer may hold.
     symbols_limit: usize,
@@ -83,7 +83,8 @@ impl Results {
         }
     }
 
-    /// Limits the buffer to `symbols_limit` symbols. A call whose result would exceed them returns `AllocError`.
+    /// Limits the buffer to `symbols_limit` symbols. A call whose result would exceed them returns
+    /// `AllocError`.
     pub fn set_symbol_limit(&mut self, symbols_limit: usize)
         ensures { self.new ≡ self.old }
     {
@@ -104,7 +105,8 @@ impl Results {
     /// Begins a proof under the pairs that are active at its statement: removes all results and
     /// images, and adds an empty saved result for each of `label_count` labels. Keeps the memory.
     ///
-    /// Errors: an allocation fails. Cost: the number of labels, and that of `DisjointCache::begin_proof`.
+    /// Errors: an allocation fails. Cost: the number of labels, and that of
+    /// `DisjointCache::begin_proof`.
     pub fn start(&mut self, pairs: &Pairs<'_>, label_count: usize) -> Result<(), AllocError>
         ensures about { self.new.about ≡ pairs.now }
         ensures results { OnOk result (self.new.results ≡ record { stack = []; saved = replicate label_count []; weight = 0 }) }
@@ -122,8 +124,8 @@ impl Results {
 
     /// Pushes an expression as a result, or returns `false` if the proof would be too heavy.
     ///
-    /// Errors: an allocation fails, or the buffer would exceed the limit set by `set_symbol_limit`. Cost: its
-    /// symbols.
+    /// Errors: an allocation fails, or the buffer would exceed the limit set by `set_symbol_limit`.
+    /// Cost: its symbols.
     #[inline(never)]
     pub fn add(&mut self, pairs: &Pairs<'_>, expr: &[u32]) -> Result<bool, AllocError>
         requires about { self.old.about ≡ pairs.now }
@@ -174,8 +176,9 @@ impl Results {
         Ok(true)
     }
 
-    /// Pushes the result that is saved at that index, or returns `false` if there is none or the proof would be too heavy.
-    /// Returns `None` if the index is one of the first `label_count`, and no result with symbols is saved there.
+    /// Pushes the result that is saved at that index, or returns `false` if there is none or the
+    /// proof would be too heavy. Returns `None` if the index is one of the first `label_count`, and
+    /// no result with symbols is saved there.
     ///
     /// Errors: an allocation fails. Cost: a constant.
     #[inline(always)]
@@ -205,8 +208,9 @@ impl Results {
         Ok(Some(true))
     }
 
-    /// Reads the images of the variables of the `$f` from the last results, one for each hypothesis, and returns how many
-    /// `$f` precede all `$e`, or `None` if a result does not begin with the typecode of its `$f`.
+    /// Reads the images of the variables of the `$f` from the last results, one for each
+    /// hypothesis, and returns how many `$f` precede all `$e`, or `None` if a result does not begin
+    /// with the typecode of its `$f`.
     ///
     /// Errors: an allocation fails. Cost: a step for each hypothesis.
     #[inline(always)]
@@ -228,8 +232,9 @@ impl Results {
         read_off(&mut self.images, symbols, typecodes, hypotheses, places)
     }
 
-    /// Returns whether the last results for the `$e` of the assertion at a position are their expressions with the images
-    /// substituted. `leading_count` is the number of `$f` that precede all `$e`. Results for `$f` are not read.
+    /// Returns whether the last results for the `$e` of the assertion at a position are their
+    /// expressions with the images substituted. `leading_count` is the number of `$f` that precede
+    /// all `$e`. Results for `$f` are not read.
     ///
     /// Cost: the symbols that agree; if there are long `$e`, that of `long_hypotheses_match`.
     #[inline(always)]
@@ -249,7 +254,7 @@ impl Results {
         requires count { length hypotheses.now ≤ length self.now.results.stack }
         requires over { AreOver frames.now.names self.now.images }
         requires named { AllBelow (length frames.now.names) self.now.results.stack }
-        ensures { IsTrue result ↔ HypothesesMatch frames.now.statements (images_of_names frames.now.names self.now.images) hypotheses.now (map (decode frames.now.names) (top (length hypotheses.now) self.now.results.stack)) }
+        ensures { IsTrue result ↔ LastResultsMatch frames.now hypotheses.now self.now }
     {
         let places = &self.stack[self.stack.len() - hypotheses.len()..];
         for k in leading_count..hypotheses.len() {
@@ -267,11 +272,13 @@ impl Results {
         true
     }
 
-    /// Returns whether the last results for the `$e` from an index on are their expressions with the images substituted. A long
-    /// expression is compared by its constants and its variables whose images are not empty, if their occurrences are few.
+    /// Returns whether the last results for the `$e` from an index on are their expressions with
+    /// the images substituted. A long expression is compared by its constants and its variables
+    /// whose images are not empty, if their occurrences are few.
     ///
-    /// Cost: a step for each hypothesis, the symbols that agree, and the occurrences of constants and of variables whose images
-    /// are not empty in long `$e`, times a logarithm. If an allocation fails, the symbols of all expressions.
+    /// Cost: a step for each hypothesis, the symbols that agree, and the occurrences of constants
+    /// and of variables whose images are not empty in long `$e`, times a logarithm. If an
+    /// allocation fails, the symbols of all expressions.
     #[cold]
     #[inline(never)]
     fn long_hypotheses_match(
@@ -289,8 +296,8 @@ impl Results {
         requires count { length hypotheses.now ≤ length self.now.results.stack }
         requires over { AreOver frames.now.names self.now.images }
         requires named { AllBelow (length frames.now.names) self.now.results.stack }
-        requires before { HypothesesMatchBefore from frames.now.statements (images_of_names frames.now.names self.now.images) hypotheses.now (map (decode frames.now.names) (top (length hypotheses.now) self.now.results.stack)) }
-        ensures { IsTrue result ↔ HypothesesMatch frames.now.statements (images_of_names frames.now.names self.now.images) hypotheses.now (map (decode frames.now.names) (top (length hypotheses.now) self.now.results.stack)) }
+        requires before { LastResultsMatchBefore from frames.now hypotheses.now self.now }
+        ensures { IsTrue result ↔ LastResultsMatch frames.now hypotheses.now self.now }
     {
         let places = &self.stack[self.stack.len() - hypotheses.len()..];
         let listed = list_symbols(frames, cited, &self.images, hypotheses, remaining).is_ok();
@@ -315,9 +322,9 @@ impl Results {
         true
     }
 
-    /// Returns those symbols of the expression of the statement at a position whose images are not empty, if the expression
-    /// is long and these symbols are few; else, or if an allocation fails, the expression. Substitution gives the same result
-    /// for both.
+    /// Returns those symbols of the expression of the statement at a position whose images are not
+    /// empty, if the expression is long and these symbols are few; else, or if an allocation fails,
+    /// the expression. Substitution gives the same result for both.
     ///
     /// Cost: the distinct symbols of a long expression, and the symbols that are returned.
     #[inline(always)]
@@ -368,7 +375,8 @@ impl Results {
         }
     }
 
-    /// Returns whether the images of each two variables of each group are disjoint at the statement of the pairs.
+    /// Returns whether the images of each two variables of each group are disjoint at the statement
+    /// of the pairs.
     ///
     /// Errors: an allocation fails. Cost: that of `DisjointCache::are_groups_disjoint`.
     #[inline(always)]
@@ -382,17 +390,17 @@ impl Results {
         requires over { AreOver pairs.now.names self.old.images }
         requires below { AllBelow (length pairs.now.names) groups.now }
         ensures same { self.new ≡ self.old }
-        ensures disjoint { IfOk result (λ ok. ok ≡ are_groups_disjoint pairs.now.statements (images_of_names pairs.now.names self.old.images) (map (decode pairs.now.names) groups.now)) }
+        ensures disjoint { IfOk result (λ ok. ok ≡ are_numbered_groups_disjoint pairs.now self.old.images groups.now) }
     {
         self.cache
             .are_groups_disjoint(pairs, groups, &self.symbols, &self.images)
     }
 
-    /// Pops the last `count` results and pushes the expression with the images substituted, or returns
-    /// `false` if the proof would be too heavy.
+    /// Pops the last `count` results and pushes the expression with the images substituted, or
+    /// returns `false` if the proof would be too heavy.
     ///
-    /// Errors: an allocation fails, or the buffer would exceed the limit set by `set_symbol_limit`. Cost: the
-    /// symbols read and written, and that of `DisjointCache::record_result`.
+    /// Errors: an allocation fails, or the buffer would exceed the limit set by `set_symbol_limit`.
+    /// Cost: the symbols read and written, and that of `DisjointCache::record_result`.
     #[inline(always)]
     pub fn apply(
         &mut self,
@@ -441,7 +449,8 @@ impl Results {
         self.weight = 0;
     }
 
-    /// Returns the weight of the proof so far: the number of symbols of all results that were pushed, by citations and recalls.
+    /// Returns the weight of the proof so far: the number of symbols of all results that were
+    /// pushed, by citations and recalls.
     pub fn weight(&self) -> usize
         ensures { result ≡ self.now.results.weight }
     {
@@ -484,7 +493,8 @@ impl Results {
     }
 }
 
-/// Lists, for each long `$e` of the assertion at a position, those of its variables whose images are not empty.
+/// Lists, for each long `$e` of the assertion at a position, those of its variables whose images
+/// are not empty.
 ///
 /// Errors: an allocation fails.
 /// Cost: a step for each hypothesis, and n log n for n occurrences of such variables in long `$e`.
@@ -507,7 +517,8 @@ fn list_symbols(
     Ok(())
 }
 
-/// Lists the variable of a hypothesis for each long `$e` that has it, if the hypothesis is a `$f` and the image is not empty.
+/// Lists the variable of a hypothesis for each long `$e` that has it, if the hypothesis is a `$f`
+/// and the image is not empty.
 ///
 /// Errors: an allocation fails.
 fn list_hypothesis(
@@ -520,7 +531,7 @@ fn list_hypothesis(
     requires named { (x : ℕ) → hypothesis ≡ Float x → x < length frames.now.names }
     requires assertion { (s : Statement) × HasAssertion frames.now.statements cited s }
     ensures kept { OnOk result ((n : ℕ) → In n remaining.old.keys → In n remaining.new.keys) }
-    ensures listed { OnOk result ((x : ℕ) → hypothesis ≡ Float x → has_nonempty_image images.now x ≡ true → IsListed frames.now.statements frames.now.names cited x remaining.new.keys) }
+    ensures listed { OnOk result (IsListedIfNonempty frames.now cited images.now hypothesis remaining.new.keys) }
 {
     let Hypothesis::Float(variable) = hypothesis else {
         return Ok(());
@@ -552,8 +563,9 @@ fn list_symbol(
     Ok(())
 }
 
-/// Finds those symbols of the expression of the `$e` at a position that are constants or are listed for it, and returns whether
-/// the expression is long and these are few. Returns `false` if an allocation fails.
+/// Finds those symbols of the expression of the `$e` at a position that are constants or are listed
+/// for it, and returns whether the expression is long and these are few. Returns `false` if an
+/// allocation fails.
 fn find_remaining(
     frames: &Frames,
     position: u32,
@@ -579,8 +591,9 @@ fn find_remaining(
     }
 }
 
-/// Returns whether the result in a range is the expression of the `$e` at a position with the images substituted. If symbols are
-/// listed, reads of a long expression only its constants and the symbols listed for it, provided that these are few.
+/// Returns whether the result in a range is the expression of the `$e` at a position with the
+/// images substituted. If symbols are listed, reads of a long expression only its constants and the
+/// symbols listed for it, provided that these are few.
 fn essential_matches(
     symbols: &Buffer,
     images: &ImageRanges,
@@ -597,7 +610,7 @@ fn essential_matches(
     requires below { AreBelow (length frames.now.names) expr.now }
     requires stands { (label : Name) × (e : Expr) × IsExprAt frames.now.statements frames.now.names position expr.now (Ess label e) }
     requires ordered { IsTrue listed → Ascends remaining.old.keys }
-    requires same { IsTrue listed → (rest : List ℕ) → AreRemaining frames.now.statements frames.now.names position expr.now remaining.old.keys rest → code_apply (images_at symbols.now images.now) rest ≡ code_apply (images_at symbols.now images.now) expr.now }
+    requires same { IsTrue listed → RemainingSuffice frames.now position expr.now remaining.old.keys (images_at symbols.now images.now) }
     ensures keys { remaining.new.keys ≡ remaining.old.keys }
     ensures matches { IsTrue result ↔ (symbols_in symbols.now place ≡ code_apply (images_at symbols.now images.now) expr.now) }
 {
@@ -674,8 +687,8 @@ fn read_later_float(
     read_float(images, symbols, typecode, variable, place)
 }
 
-/// Sets the images of the variables of the `$f` that precede all other hypotheses, and returns how many these are, or `None`
-/// if a result does not begin with the typecode of its `$f`.
+/// Sets the images of the variables of the `$f` that precede all other hypotheses, and returns how
+/// many these are, or `None` if a result does not begin with the typecode of its `$f`.
 #[inline(always)]
 fn read_leading_floats(
     images: &mut ImageRanges,
@@ -689,7 +702,7 @@ fn read_leading_floats(
     requires within { AreWithin (length symbols.now) places.now }
     requires different { AreDifferent hypotheses.now }
     requires none { images.old ≡ [] }
-    ensures read { IfOk result (λ r. MatchOption r (IsMistyped symbols.now typecodes.now hypotheses.now places.now) (λ n. ReadTo n symbols.now typecodes.now hypotheses.now places.now images.new)) }
+    ensures read { IfOk result (ReadsLeading symbols.now typecodes.now hypotheses.now places.now images.new) }
     ensures floats { IfOk result (λ r. IfSome r (AreLeadingFloats hypotheses.now)) }
     ensures inside { (n : ℕ) → AreWithin n places.now → AreInside n images.new }
 {
@@ -704,8 +717,9 @@ fn read_leading_floats(
     Ok(Some(hypotheses.len()))
 }
 
-/// Sets the images of the variables of all `$f`, and no others, to their results without the first symbols, and returns how
-/// many `$f` precede all other hypotheses, or `None` if a result does not begin with the typecode of its `$f`.
+/// Sets the images of the variables of all `$f`, and no others, to their results without the first
+/// symbols, and returns how many `$f` precede all other hypotheses, or `None` if a result does not
+/// begin with the typecode of its `$f`.
 ///
 /// Errors: an allocation fails. Cost: a step for each hypothesis.
 #[inline(always)]

@@ -40,7 +40,8 @@ module _ (right : ℕ → Type 0) (count step : ℕ) where
       (λ q lower turn within is_before. before q lower turn within (first (q + turn * step) is_before))
       (λ turn within is_before. here.before turn within (second (stripe + turn * step) is_before))
 
-  -- if two answers have jobs that are not right, an answer that is equal to one of them has such a job
+  -- if two answers have jobs that are not right, an answer that is equal to one of them has such a
+  -- job
   pub one_of_two : (least answer both : Option ℕ) → (both ≡ least) ⊎ (both ≡ answer)
       → IfSome least (IsWrongAt right count) → IfSome answer (IsWrongAt right count) → IfSome both (IsWrongAt right count)
   one_of_two least answer both one p q =

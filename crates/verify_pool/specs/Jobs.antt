@@ -1,5 +1,6 @@
 -- The least job that is not right, for proofs that are given as their items.
--- Source: Metamath, 4.2.6 and appendix B, for a right proof (`verify`); this project, for the first one that is not right.
+-- Source: Metamath, 4.2.6 and appendix B, for a right proof (`verify`); this project, for the first
+-- one that is not right.
 -- The code deals the jobs out to workers; here they are one list, judged in order.
 use Rattle.std.specs.Prelude.{◌≡◌, ℕ, List, slice_get, Option, Some, IfSome, MatchOption}
 use Rattle.mm_lex.specs.Alphabet.{Name}
@@ -13,7 +14,8 @@ use Rattle.verify_pool.specs.Least.{IsBefore}
 abbrev pub IsJob : Database → Job → Type 0
 IsJob S job = (s : Stmt) × IsProvable S job.at s
 
--- jobs, with the statements that they are checked against, and the names for which numbers stand in the frames
+-- jobs, with the statements that they are checked against, and the names for which numbers stand in
+-- the frames
 pub record JobList : Type 0 where
   pub statements : Database
   pub names : List Name

@@ -34,7 +34,8 @@ AreFound right count workers =
     (i : ℕ) (d : Worker) → i < length workers
     → IfOk (slice_index_or workers i d).least (λ least. IsFoundInStripe right count i (length workers) least (slice_index_or workers i d).deferred.items)
 
--- the index becomes the answer if it is before the old answer and its job is not right, else the old answer stays
+-- the index becomes the answer if it is before the old answer and its job is not right, else the
+-- old answer stays
 abbrev pub IsSettled : (ℕ → Type 0) → ℕ → Option ℕ → Option ℕ → Type 0
 IsSettled right index old new =
     ((new ≡ old) × (IsBefore index old → right index)) ⊎ ((new ≡ Some index) × IsBefore index old × (¬ right index))

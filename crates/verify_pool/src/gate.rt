@@ -9,8 +9,8 @@ pub enum Place {
     Apply(u8),
 }
 
-/// A gate that a thread passes before each job that is dealt to it, and before each entry of the log
-/// that it applies.
+/// A gate that a thread passes before each job that is dealt to it, and before each entry of the
+/// log that it applies.
 ///
 /// It may watch the threads or hold them back, and it may keep heavy proofs out. No answer depends
 /// on it, except whether it is an `AllocError`.

@@ -4,8 +4,9 @@
 //! each is right, whatever the number of workers. `judge_here` returns it on the calling thread;
 //! `check_all` returns it for proofs that are given as their items.
 //!
-//! Reading order: `work` (jobs by index), `pool_size`, `gate` (what a thread passes before each job), `checkers` (reused from
-//! text to text), `pool` (the jobs of one worker, and all of them), `job` (proofs with their items), `laws`.
+//! Reading order: `work` (jobs by index), `pool_size`, `gate` (what a thread passes before each
+//! job), `checkers` (reused from text to text), `pool` (the jobs of one worker, and all of them),
+//! `job` (proofs with their items), `laws`.
 #![tactic(auto)]
 
 mod checkers;

@@ -15,8 +15,8 @@ pub trait Work {
     /// The job of this index is right.
     ghost right: { Self → ℕ → Type 0 };
 
-    /// The cache of a checker is right for these jobs: the lists of assertions and the facts on pairs
-    /// of variables that it keeps from proof to proof.
+    /// The cache of a checker is right for these jobs: the lists of assertions and the facts on
+    /// pairs of variables that it keeps from proof to proof.
     ghost is_cache_for: { Self → CheckerCache → Type 0 };
 
     /// Returns the number of jobs.

@@ -10,7 +10,8 @@ pub entry_next : (log : List (Option Carried)) (s t : ℕ) (found : Option (Bor 
 entry_next log s t None at h = sym (ap (λ (i : ℕ). slice_get (entries_of log) i) (sym at) ∙ entries_of-none log t h)
 entry_next log s t (Some e) at h = sym (ap (λ (i : ℕ). slice_get (entries_of log) i) (sym at) ∙ entries_of-get log t e.now h)
 
--- The answer of a call that applies the next entry at node k: `node` is its library before, `next` after.
+-- The answer of a call that applies the next entry at node k: `node` is its library before, `next`
+-- after.
 
 module _ (old : WorldView) (k : ℕ) (node next : NodeLibrary) (result : Result (Option Verdict) StepFault) (is : slice_get old.libraries k ≡ Some node)
     (from : AppliesNext node next (slice_get (log_entries old.history k) node.applied) result) where

@@ -1,4 +1,5 @@
--- The headline: logs of entries agree, the library of a log is a prefix of that of a longer one, and each library of a log is good.
+-- The headline: logs of entries agree, the library of a log is a prefix of that of a longer one,
+-- and each library of a log is good.
 use Rattle.world.proofs.Words.{◌≡◌, ℕ, zero, suc, true, false, List, [], ◌∷◌, take, Option, Result, Ok, Err, inl, inr, refl, ap, sym, subst, IsOk, Entry, ReplicaState, IsLibraryOf, library-begins, library-good, Carried, StepFault, World, log, IsPrefixOf, Agree, History, world_of, Agreement, carried_size, entries_of, Headline, HeadlineHolds, then_begins, beginnings_agree, agreement_of}
 use Rattle.world.proofs.EntryLogs.{entries_agree}
 

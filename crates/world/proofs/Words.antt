@@ -1,4 +1,5 @@
--- The names used in the proofs of this crate, with lemmas of std and of the layers below, re-exported from one place.
+-- The names used in the proofs of this crate, with lemmas of std and of the layers below,
+-- re-exported from one place.
 pub use Rattle.library.proofs.LibraryLemmas.{library-begins, library-good, library-more}
 pub use Rattle.library.specs.LibraryOf.{Applies, IsLibraryOf, ReplicaState}
 pub use Rattle.library.specs.declared.entry.Entry.{Entry}

@@ -1,5 +1,6 @@
 -- Entries of a library as the values that nodes agree on.
--- Source: Lamport, Paxos Made Simple, section 3: the values chosen are the commands of a state machine.
+-- Source: Lamport, Paxos Made Simple, section 3: the values chosen are the commands of a state
+-- machine.
 -- The code shares the bytes of a text among the copies of its entry.
 use Rattle.std.specs.Prelude.{ℕ, List, [], ◌∷◌, Option, Some, None}
 use Rattle.world.specs.Words.{Entry, size_of, Event, Offer, Begin, Deliver, Restart}

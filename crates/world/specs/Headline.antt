@@ -1,5 +1,6 @@
--- The headline theorem: the logs agree; of any two nodes' libraries, at any two moments, the statements of one are a prefix of
--- the other's; the statements of each library are good; and each of its provable assertions has a derivation.
+-- The headline theorem: the logs agree; of any two nodes' libraries, at any two moments, the
+-- statements of one are a prefix of the other's; the statements of each library are good; and each
+-- of its provable assertions has a derivation.
 -- Source: Lamport, Paxos Made Simple, section 3; Megill and Wheeler, Metamath, 2nd ed. 2019, 4.2.
 -- No code computes this; it follows from agreement and from the definition of the library of a log.
 use Rattle.std.specs.Prelude.{◌≡◌, ℕ, Some, IsOk, take}
@@ -7,7 +8,8 @@ use Rattle.world.specs.Words.{Stmt, Database, bares, stmt_at, expr_of, Derivatio
 use Rattle.world.specs.declared.carried.Carried.{Carried}
 use Rattle.world.specs.Carried.{carried_size, entries_of}
 
--- a library of the history: that of some number of first entries of a node's log, in the world of `net` at some moment
+-- a library of the history: that of some number of first entries of a node's log, in the world of
+-- `net` at some moment
 pub record IsLibraryIn (history : History Carried) (library : ReplicaState) : Type 0 where
   pub world : World Carried
   pub moment : IsMoment carried_size history world
@@ -15,8 +17,9 @@ pub record IsLibraryIn (history : History Carried) (library : ReplicaState) : Ty
   pub count : ℕ
   pub of_log : IsLibraryOf (take count (entries_of (log world node))) library
 
--- the expression of the assertion at that position has a derivation from the hypotheses active there; each of its steps is an
--- instance of an earlier assertion, by a substitution that meets the disjoint variable conditions
+-- the expression of the assertion at that position has a derivation from the hypotheses active
+-- there; each of its steps is an instance of an earlier assertion, by a substitution that meets the
+-- disjoint variable conditions
 pub record HasDerivation (S : Database) (at : ℕ) : Type 0 where
   pub stmt : Stmt
   pub derivation : Derivation

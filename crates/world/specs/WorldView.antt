@@ -1,7 +1,9 @@
--- A world as contracts see it: its weights, the events taken, and each node's library with the count of entries applied.
--- Source: Lamport, Paxos Made Simple, section 3: a server executes the commands in order, each when it knows all earlier ones.
--- The code has the nodes and packets too; by an invariant of its type (`AreLibrariesOfLogs`), each library is that of the
--- first entries of its node's log.
+-- A world as contracts see it: its weights, the events taken, and each node's library with the
+-- count of entries applied.
+-- Source: Lamport, Paxos Made Simple, section 3: a server executes the commands in order, each when
+-- it knows all earlier ones.
+-- The code has the nodes and packets too; by an invariant of its type (`AreLibrariesOfLogs`), each
+-- library is that of the first entries of its node's log.
 use Rattle.std.specs.Prelude.{◌≡◌, ◌+◌, ◌≤◌, ℕ, List, [], Option, Some, None, Result, Ok, Err, length, take, replicate, slice_get, slice_set}
 use Rattle.world.specs.Words.{Entry, Verdict, ReplicaState, empty, Applies, IsLibraryOf, Event, StepFault, Memory, Offer, Begin, Deliver, Restart, log_after, History, world_of, with_event}
 use Rattle.world.specs.declared.carried.Carried.{Carried}
@@ -59,7 +61,8 @@ pub record AreLibrariesOfLogs (w : WorldView) : Type 0 where
   pub one_each : length w.libraries ≡ length w.history.weights
   pub of_logs : (k : ℕ) (node_library : NodeLibrary) → slice_get w.libraries k ≡ Some node_library → IsOfLog (log_entries w.history k) node_library
 
--- The entry of a log to be applied next to a node's library, if there is such a node and such an entry.
+-- The entry of a log to be applied next to a node's library, if there is such a node and such an
+-- entry.
 
 abbrev pub next_of : List (Option Entry) → Option NodeLibrary → Option (Option Entry)
 next_of log None = None
@@ -77,8 +80,8 @@ pub record IsApplied (old : WorldView) (k : ℕ) (entry : Option Entry) (verdict
   pub applies : Applies old_node_library.library entry verdict new_library
   pub becomes : new ≡ record { history = old.history; libraries = slice_set old.libraries k (record { applied = old_node_library.applied + 1; library = new_library }) }
 
--- the entry is applied with this verdict, or `Memory` is returned and nothing changes; if there is no entry, `None` is returned
--- and nothing changes
+-- the entry is applied with this verdict, or `Memory` is returned and nothing changes; if there is
+-- no entry, `None` is returned and nothing changes
 abbrev pub AppliesNext : NodeLibrary → NodeLibrary → Option (Option Entry) → Result (Option Verdict) StepFault → Type 0
 AppliesNext old new None (Ok None) = new ≡ old
 AppliesNext old new None (Ok (Some verdict)) = ⊥

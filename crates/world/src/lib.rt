@@ -1,11 +1,12 @@
 //! All nodes that agree on one log, each with its library, driven by a list of events.
 //!
-//! The main theorem is `headline`: whatever packets are lost, repeated or delayed and whichever nodes restart, of any two
-//! nodes' libraries, at any two moments, the statements of one are a prefix of the other's. `program` and `run_pictures` use
-//! `World`, `cluster` uses `NodeLibrary`; `run` serves tests.
+//! The main theorem is `headline`: whatever packets are lost, repeated or delayed and whichever
+//! nodes restart, of any two nodes' libraries, at any two moments, the statements of one are a
+//! prefix of the other's. `program` and `run_pictures` use `World`, `cluster` uses `NodeLibrary`;
+//! `run` serves tests.
 //!
-//! Reading order: the definitions in `specs/Carried`, `WorldView` and `Headline`; then the modules `carried`, `node_library`,
-//! `world`, `run_of_events` and `laws`.
+//! Reading order: the definitions in `specs/Carried`, `WorldView` and `Headline`; then the modules
+//! `carried`, `node_library`, `world`, `run_of_events` and `laws`.
 #![tactic(auto)]
 
 mod carried;

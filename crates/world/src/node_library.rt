@@ -60,8 +60,8 @@ impl NodeLibrary {
         &self.library
     }
 
-    /// Applies `next`, the next entry of the log, and returns its verdict. `next` is `Some(None)` for a no-operation, and
-    /// `None` if the log ends here; then `None` is returned.
+    /// Applies `next`, the next entry of the log, and returns its verdict. `next` is `Some(None)`
+    /// for a no-operation, and `None` if the log ends here; then `None` is returned.
     ///
     /// Errors: `Memory`; `self` is then unchanged. Cost: that of `Library::apply` on the entry.
     pub fn apply_next(
@@ -79,11 +79,13 @@ impl NodeLibrary {
         Ok(Some(verdict))
     }
 
-    /// Applies the next entry of the log as `apply_next` does, with its proofs checked by workers in parallel. Each
-    /// worker calls `Gate::pass` before each proof. The number of workers can change only whether `Memory` is returned.
+    /// Applies the next entry of the log as `apply_next` does, with its proofs checked by workers
+    /// in parallel. Each worker calls `Gate::pass` before each proof. The number of workers can
+    /// change only whether `Memory` is returned.
     ///
-    /// Errors: those of `apply_next`; `Memory` may also be returned if a proof is too heavy for a worker and the gate
-    /// keeps heavy proofs out (`Gate::admits_heavy`). Cost: that of `Library::apply_with` on the entry.
+    /// Errors: those of `apply_next`; `Memory` may also be returned if a proof is too heavy for a
+    /// worker and the gate keeps heavy proofs out (`Gate::admits_heavy`). Cost: that of
+    /// `Library::apply_with` on the entry.
     pub fn apply_next_with<G: Gate + Sync, R: Threads + Sync>(
         &mut self,
         rt: &R,

@@ -11,10 +11,12 @@ use net::{Event, StepFault};
 use std::alloc::Global;
 use synod::Weights;
 
-/// Takes all events, starting with new nodes, and returns the world after them. No entry is applied yet: its libraries are empty.
+/// Takes all events, starting with new nodes, and returns the world after them. No entry is applied
+/// yet: its libraries are empty.
 ///
-/// Errors: the index from 0 of the first event that is refused, with its fault, or with `Memory` if it meets none. The index
-/// is 0 if creating the new nodes runs out of memory. Cost: that of the steps.
+/// Errors: the index from 0 of the first event that is refused, with its fault, or with `Memory` if
+/// it meets none. The index is 0 if creating the new nodes runs out of memory. Cost: that of the
+/// steps.
 pub fn run(
     alloc: Global,
     weights: Weights,

@@ -15,11 +15,11 @@ use std::alloc::Global;
 use std::marker::Model;
 use synod::{NodeState, Packet, Weights};
 
-/// A world of nodes and their libraries. Contracts see the weights, the events taken, and each node's library with the count of
-/// entries applied.
+/// A world of nodes and their libraries. Contracts see the weights, the events taken, and each
+/// node's library with the count of entries applied.
 ///
-/// Source: Lamport, Paxos Made Simple, 2 and 3; the world after a list of events is in `net/specs/World.antt`, what contracts
-/// see of it in `specs/WorldView.antt`.
+/// Source: Lamport, Paxos Made Simple, 2 and 3; the world after a list of events is in
+/// `net/specs/World.antt`, what contracts see of it in `specs/WorldView.antt`.
 #[derive(Drop)]
 pub struct World {
     alloc: Global,
@@ -55,9 +55,11 @@ impl World {
         })
     }
 
-    /// Takes an event. Returns the number of packets posted so far. A restart discards the library of its node.
+    /// Takes an event. Returns the number of packets posted so far. A restart discards the library
+    /// of its node.
     ///
-    /// Errors: the first fault that the event meets, or `Memory` if it meets none; the world is then as before.
+    /// Errors: the first fault that the event meets, or `Memory` if it meets none; the world is
+    /// then as before.
     /// Cost: that of `Net::step`; a restart also drops the library of its node.
     pub fn step(&mut self, event: Event<Entry>) -> Result<u64, StepFault>
         ensures taken { OnOk result (self.new ≡ after_event self.old (value_event event)) }
@@ -75,7 +77,8 @@ impl World {
         Ok(posted)
     }
 
-    /// Applies the next entry of node `k`'s log to its library. Returns `None` if there is no next entry. Never passes a gap.
+    /// Applies the next entry of node `k`'s log to its library. Returns `None` if there is no next
+    /// entry. Never passes a gap.
     ///
     /// Errors: `NoNode` if there is no such node, else `Memory`; the world is then unchanged.
     /// Cost: that of `Library::apply` on the entry.
@@ -93,7 +96,8 @@ impl World {
         apply_next_of_log(node_library, &self.net, k)
     }
 
-    /// Returns the library of node `k`: that of the first entries of its log, as many as were applied. Does not allocate.
+    /// Returns the library of node `k`: that of the first entries of its log, as many as were
+    /// applied. Does not allocate.
     ///
     /// Errors: `NoNode`.
     pub fn library(&self, k: u8) -> Result<&Library, StepFault>
@@ -108,7 +112,8 @@ impl World {
         }
     }
 
-    /// Returns the events taken, in order. None of them meets a fault, and the headline holds of them.
+    /// Returns the events taken, in order. None of them meets a fault, and the headline holds of
+    /// them.
     pub fn history(&self) -> &[Event<Carried>]
         ensures events { result.now ≡ self.now.history.events }
         ensures few { length self.now.history.events ≤ MAX_EVENTS }

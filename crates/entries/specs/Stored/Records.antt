@@ -7,6 +7,7 @@ use Rattle.entries.specs.declared.layout.TheConstants.{COUNTS}
 use Rattle.entries.specs.declared.entries.Stored.{Stored}
 use Rattle.entries.specs.declared.statement_record.StatementRecord.{StatementRecord}
 use Rattle.entries.specs.declared.entry_header.StateBefore.{StateBefore}
+use Rattle.entries.specs.declared.entry_header.EntryHeader.{EntryHeader}
 use Rattle.entries.specs.declared.kind.Kind.{Kind}
 use Rattle.entries.specs.declared.buffer_part.BufferPart.{BufferPart}
 use Rattle.entries.specs.declared.parts.AssertionParts.{AssertionParts}
@@ -50,6 +51,11 @@ numbers_of false p = p.symbols.now
 
 abbrev pub record_by : Kind → Bool → Bool → ℕ → ℕ → StatementRecord
 record_by kind has_parts whole from groups = record { from = from; groups_from = groups; kind = kind; has_parts = has_parts; whole = whole }
+
+-- the record of a statement with this header and these parts; its numbers begin at `from`, its
+-- groups at `groups`
+abbrev pub record_of : EntryHeader → AssertionParts → ℕ → ℕ → StatementRecord
+record_of h p from groups = record_by h.kind (has_parts p) p.whole from groups
 
 -- a statement without the state before it
 pub record Body : Type 0 where

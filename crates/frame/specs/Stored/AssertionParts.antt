@@ -1,6 +1,6 @@
 -- The parts of an assertion, by numbers.
 -- Internal to the code: no public clause cites it.
-use Rattle.std.specs.Prelude.{◌≡◌, ℕ, ◌-◌, ◌==◌, Bool, true, false, if◌then◌else◌, List, [], ◌∷◌, map, filter, get_or, slice_get, Option, Some, None}
+use Rattle.std.specs.Prelude.{◌≡◌, ℕ, ◌-◌, ◌==◌, Bool, true, false, if◌then◌else◌, List, [], ◌∷◌, ◌++◌, map, filter, get_or, slice_get, Option, Some, None}
 use Rattle.frame.specs.Words.{has_name, Stmt, Expr, Database, expr_of, active, is_essential, Hypothesis, Kind, Float, Ess, Axiom, Prove, Entry, Assertion, list_any}
 use Rattle.mm_read.specs.declared.stmt.Stmt.TheVariants as stmt
 use Rattle.frame.specs.FrameOf.{hypotheses}
@@ -42,6 +42,11 @@ has_two_or_more_items [] = false
 has_two_or_more_items (x ∷ []) = false
 has_two_or_more_items (x ∷ y ∷ xs) = true
 
+-- the groups, and one more of those symbols that are among the variables, if these are two or more
+abbrev pub with_group : List ℕ → List ℕ → List (List ℕ) → List (List ℕ)
+with_group variables codes groups =
+    if has_two_or_more_items (recorded_in variables codes) then groups ++ recorded_in variables codes ∷ [] else groups
+
 -- for each list its numbers that are variables of the `$f`, if these are two or more
 abbrev pub groups_by : List Hypothesis → List (List ℕ) → List (List ℕ)
 groups_by hs lists = filter has_two_or_more_items (map (typed hs) lists)
@@ -73,7 +78,8 @@ is_float_in e s = false
 abbrev pub floats_in : Database → Expr → List ℕ
 floats_in S e = map (λ p. p.0) (filter (λ p. is_float_in e p.1) (active S))
 
--- the hypotheses that are kept with a statement: all mandatory ones, or the `$f` of its own variables
+-- the hypotheses that are kept with a statement: all mandatory ones, or the `$f` of its own
+-- variables
 abbrev pub kept_with : Bool → Database → Stmt → List ℕ
 kept_with whole S s = if whole then hypotheses S s else floats_in S (expr_of s)
 

@@ -6,8 +6,8 @@ use Rattle.mm_read.specs.declared.stmt.Stmt.TheVariants as stmt
 use Rattle.frame.specs.LastActive.{last_active_of_kind}
 use Rattle.frame.specs.Stored.Counts.{kind_of}
 
--- the position of the `$}` that ends the block of these statements, the first of which is at `at` and inside d inner blocks;
--- 0 if the block does not end
+-- the position of the `$}` that ends the block of these statements, the first of which is at `at`
+-- and inside d inner blocks; 0 if the block does not end
 abbrev pub end_from : ℕ → ℕ → Database → ℕ
 end_from d at [] = 0
 end_from d at (stmt.Open ∷ S) = end_from (suc d) (at + 1) S

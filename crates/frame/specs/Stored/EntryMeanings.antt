@@ -1,7 +1,7 @@
 -- The meaning of an entry, and of the entries for the number of a symbol.
 -- Internal to the code: no public clause cites it.
 use Rattle.std.specs.Prelude.{◌≡◌, ℕ, ◌+◌, ◌<◌, ◌==◌, Bool, true, false, ◌&&◌, if◌then◌else◌, List, [], ◌∷◌, ◌++◌, length, map, slice_get, Option, Some, None}
-use Rattle.frame.specs.Words.{list_any, Name, Stmt, Expr, Database, stmt_at, before, label_of, declared_symbols, declared_labels, name_at, decode, Kind, Open, Close, Const, Var, Disj, Float, Ess, Axiom, Prove, Entry, IsLegal}
+use Rattle.frame.specs.Words.{list_any, Name, Stmt, Expr, Database, stmt_at, before, label_of, declared_symbols, declared_labels, name_at, decode, Kind, Open, Close, Const, Var, Disj, Float, Ess, Axiom, Prove, Entry, IsLegal, AreVariableNumbers, symbols_after}
 use Rattle.mm_read.specs.declared.stmt.Stmt.TheVariants as stmt
 use Rattle.frame.specs.declared.storage.LastDeclarations.{LastDeclarations}
 use Rattle.frame.specs.declared.storage.Storage.{Storage}
@@ -38,6 +38,11 @@ statements_of k = map (stmt_of (names_in k) (labels_in k)) k.entries
 -- the statements of a storage, and the names of its symbols
 abbrev pub numbered : Storage → Numbered
 numbered k = record { statements = statements_of k; names = names_in k }
+
+-- the first entry of `new` after those of `old` has the numbers of the variables that the statement
+-- s declares or gives a type
+abbrev pub HasVariableNumbers : Storage → Stmt → Storage → Type 0
+HasVariableNumbers old s new = (e : Entry) → slice_get new.entries (length old.entries) ≡ Some e → AreVariableNumbers (symbols_after (statements_of old) s) s e.symbols
 
 -- the position of a statement, before these positions, if it has a label
 abbrev pub option_position : {A : Type 0} → Option A → ℕ → List ℕ → List ℕ
@@ -113,7 +118,14 @@ abbrev pub with_last : Kind → ℕ → LastDeclarations → LastDeclarations
 with_last Float at x = record { float = at; variable = x.variable }
 with_last kind at x = record { float = x.float; variable = at }
 
--- the declarations that a statement of this kind with these symbols replaces, if the last declarations before it are x
+-- each declared symbol c has its last declaration by statements of this kind at `at c`; the other
+-- last declarations are as before
+abbrev pub AreDeclaredAt : Kind → (ℕ → ℕ) → List ℕ → List LastDeclarations → List LastDeclarations → Type 0
+AreDeclaredAt kind at declared old new = (c : ℕ) (x : LastDeclarations) → slice_get old c ≡ Some x
+    → slice_get new c ≡ Some (if list_any (λ y. c == y) declared then with_last kind (at c) x else x)
+
+-- the declarations that a statement of this kind with these symbols replaces, if the last
+-- declarations before it are x
 abbrev pub replaced_by : (ℕ → LastDeclarations) → Kind → List ℕ → List ℕ
 replaced_by x kind codes = map (λ c. last_of kind (x c)) (declared_by kind codes)
 

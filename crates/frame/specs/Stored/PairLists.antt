@@ -26,7 +26,8 @@ pub record IsSearchedIn (k : Storage) (x y : ℕ) (disjoints : List ℕ) : Type 
   pub differ : (x == y) ≡ false
   pub with_x : AreDisjointsWith k x disjoints
 
--- the answer of the search holds for all these `$d`, and for those that are left after each passed one
+-- the answer of the search holds for all these `$d`, and for those that are left after each passed
+-- one
 abbrev pub AreAnswered : Storage → ℕ → List ℕ → SearchEnd → Type 0
 AreAnswered k y disjoints search_end = (i : ℕ) → i ≤ search_end.passed → list_any (has_code k.entries y) (drop i disjoints) ≡ search_end.found
 

@@ -12,7 +12,8 @@ use Rattle.frame.specs.declared.stored_entries.TheConstants.{LONG_EXPRESSION}
 abbrev pub has_code : List Entry → ℕ → ℕ → Bool
 has_code es c p = list_any (λ x. c == x) (symbols_at es p)
 
--- the positions of those statements that have the symbol c, from the last one back, before those that were found earlier
+-- the positions of those statements that have the symbol c, from the last one back, before those
+-- that were found earlier
 abbrev pub having_after : List ℕ → List Entry → ℕ → List (ℕ × Stmt) → List ℕ
 having_after found es c [] = found
 having_after found es c (p ∷ ps) = having_after (if has_code es c p.0 then p.0 ∷ found else found) es c ps
@@ -21,7 +22,8 @@ having_after found es c (p ∷ ps) = having_after (if has_code es c p.0 then p.0
 abbrev pub positions_with : List Entry → ℕ → List (ℕ × Stmt) → List ℕ
 positions_with es c ps = having_after [] es c ps
 
--- the stack of each symbol, at each position, has the active statements of the kind that have the symbol
+-- the stack of each symbol, at each position, has the active statements of the kind that have the
+-- symbol
 pub record AreStacks (kind : Stmt → Bool) (hs : List (List StackVersion)) (es : List Entry) (S : Database) : Type 0 where
   pub until : AreUntil (length es) hs
   pub each : (c at : ℕ) → 1 ≤ at → at ≤ length es + 1 → stack_at (history hs c) at ≡ positions_with es c (actives kind (take (at - 1) S))

@@ -27,7 +27,8 @@ pub record AreKept (names labels : List Name) (positions : List ℕ) (symbols : 
   pub counts_kept : (i : ℕ) (e : Entry) → slice_get entries i ≡ Some e → KeepsCounts names labels entries i e
   pub count : length symbols ≡ length names
   pub few : length names < 2 ^ 31
-  pub parts_kept : (i : ℕ) (e : Entry) → slice_get entries i ≡ Some e → has_parts e.kind ≡ true → IsKeptAs entries (take i (map (stmt_of names labels) entries)) (stmt_of names labels e) e.assertion
+  pub parts_kept : (i : ℕ) (e : Entry) → slice_get entries i ≡ Some e → has_parts e.kind ≡ true
+      → IsKeptAs entries (take i (map (stmt_of names labels) entries)) (stmt_of names labels e) e.assertion
 
 -- the storage is that of its statements, with the stacks of each symbol
 pub record AreStored (k : Storage) : Type 0 where

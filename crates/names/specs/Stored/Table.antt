@@ -71,7 +71,7 @@ pub record IsTable (slots : List Slot) (a : NameKeys) (names : List Name) : Type
   pub reachable : AreReachable (length names) slots a names
 
 -- `at` is the index of the first free slot that the steps of a key probe
-pub record IsFree (slots : List Slot) (key at : ℕ) : Type 0 where
+pub record IsFirstFreeSlot (slots : List Slot) (key at : ℕ) : Type 0 where
   pub step : ℕ
   pub within : step < length slots
   pub near : step < MAX_PROBES

@@ -1,6 +1,7 @@
 -- The table that the code builds while it goes over the items.
 -- Source: this project's form of a table of steps.
--- The code keeps all expressions in one buffer, and finds a step by its position and those that it takes.
+-- The code keeps all expressions in one buffer, and finds a step by its position and those that it
+-- takes.
 use Rattle.std.specs.Prelude.{◌≡◌, ◌≢◌, ℕ, zero, suc, ◌≤◌, ◌⊎◌, List, [], ◌∷◌, ◌++◌, length, map, get_or, Option, Some, None, slice_get}
 use Rattle.steps.specs.Words.{BTreeMap, get_by, slice_cmp, nat_cmp, Vec, Global, Name, Database, AreBelow, CodeImages, code_apply, AssertionView, Item, SymbolRange, symbols_in, AreRead, below, top, State, RunsItem}
 use Rattle.steps.specs.declared.table_draft.StoredStep.{StoredStep}
@@ -62,9 +63,11 @@ pub record AgreesWithRun (names : List Name) (d : TableDraft) (st : State) : Typ
 abbrev pub CanRun : Database → ℕ → List Name → TableDraft → Item → Type 0
 CanRun S at names old item = (st : State) × (next : State) × AgreesWithRun names old st × RunsItem S at st item next
 
--- if a run does the item, it was recorded, and the results of the run are the expressions of the rows
+-- if a run does the item, it was recorded, and the results of the run are the expressions of the
+-- rows
 abbrev pub IsItemRecorded : Database → ℕ → List Name → TableDraft → Item → TableDraft → Type 0
-IsItemRecorded S at names old item new = (st next : State) → AgreesWithRun names old st → RunsItem S at st item next → RecordsItem S at (progress_of old) item (progress_of new) × AgreesWithRun names new next
+IsItemRecorded S at names old item new = (st next : State) → AgreesWithRun names old st → RunsItem S at st item next
+    → RecordsItem S at (progress_of old) item (progress_of new) × AgreesWithRun names new next
 
 -- the symbol numbers of the expression of the row at a place
 abbrev pub codes_in : TableDraft → ℕ → List ℕ

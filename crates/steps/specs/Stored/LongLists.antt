@@ -1,6 +1,8 @@
--- The mandatory hypotheses of assertions with long lists, listed once for each assertion of a table.
+-- The mandatory hypotheses of assertions with long lists, listed once for each assertion of a
+-- table.
 -- Metamath, 4.2.6: a citation of an assertion needs results for its mandatory hypotheses.
--- The code keeps no groups of disjoint variables: a table is made of a right proof, whose disjoint variable conditions were checked.
+-- The code keeps no groups of disjoint variables: a table is made of a right proof, whose disjoint
+-- variable conditions were checked.
 use Rattle.std.specs.Prelude.{◌≡◌, ℕ, ◌<◌, List, [], ◌∷◌, length, map, slice_get, Some}
 use Rattle.steps.specs.Words.{Name, Stmt, Database, stmt_at, before, decode, Hypothesis, AssertionView, AreNumberedHypotheses, IsViewOf, AllBelow, hypotheses, mandatory_groups}
 

@@ -1,6 +1,7 @@
 -- The marks that the code keeps while it finds the essential steps: one for each step.
 -- Source: this project's form of a table of steps.
--- The definition goes from the last step to those that it takes; the code marks the steps that it reaches.
+-- The definition goes from the last step to those that it takes; the code marks the steps that it
+-- reaches.
 use Rattle.std.specs.Prelude.{◌≡◌, ◌↔◌, ◌⊎◌, ℕ, zero, suc, ◌-◌, ◌≤◌, Bool, true, false, if◌then◌else◌, List, [], ◌∷◌, ◌++◌, length, map, replicate, get_or, Some, slice_get, slice_set}
 use Rattle.steps.specs.Words.{Database, Hypothesis, Float, Essential}
 use Rattle.steps.specs.StepTable.{Step}

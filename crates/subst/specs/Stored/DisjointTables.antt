@@ -3,7 +3,7 @@
 -- The code reuses the memory of its tables from proof to proof.
 use Rattle.std.specs.Prelude.{ℕ, Bool, List}
 use Rattle.subst.specs.Words.{Numbered, are_disjoint}
-use Rattle.subst.specs.DisjointImages.{image_named}
+use Rattle.subst.specs.DisjointImages.{are_numbers_disjoint, image_named}
 use Rattle.subst.specs.SymbolRanges.{images_at}
 use Rattle.subst.specs.declared.symbol_range.SymbolRange.{SymbolRange}
 use Rattle.subst.specs.declared.disjoint_tables.DisjointTables.{DisjointTables}
@@ -18,6 +18,10 @@ pub record AreTables (v : Numbered) (symbols : List ℕ) (t : DisjointTables) : 
   pub recorded : AreLongImages v t.variables symbols t.images
   pub facts : AreFacts v t.variables t.rows
   pub image_pairs : AreDisjointPairs v symbols t.image_pairs
+
+-- the images of every two different numbers of the group are disjoint
+abbrev pub is_named_group_disjoint : Numbered → List ℕ → List (ℕ × SymbolRange) → List ℕ → Bool
+is_named_group_disjoint v symbols images group = are_numbers_disjoint v.statements (image_named v.names (images_at symbols images)) group
 
 -- the images of two numbers are disjoint
 abbrev pub are_named_disjoint : Numbered → List ℕ → List (ℕ × SymbolRange) → ℕ → ℕ → Bool

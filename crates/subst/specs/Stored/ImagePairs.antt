@@ -1,5 +1,6 @@
 -- Pairs of images that were found to be disjoint.
--- Metamath, 4.2.6: no variable is in both images, and each pair of variables, one from each, is in an active `$d`.
+-- Metamath, 4.2.6: no variable is in both images, and each pair of variables, one from each, is in
+-- an active `$d`.
 -- The code keeps the ranges of the two images for a whole proof: the symbols there do not change.
 use Rattle.std.specs.Prelude.{◌≡◌, ℕ, ◌≤◌, ◌⊎◌, true, List, ◌∷◌, [], ◌++◌, length}
 use Rattle.subst.specs.Words.{All, Numbered, decode, are_disjoint}

@@ -1,7 +1,7 @@
 -- Images by the number of their symbol, in tables that are not cleared symbol by symbol.
 -- Source: this project's representation of images.
--- The code records for each symbol the range of its image and the round in which it was set; an image of another round does not
--- count.
+-- The code records for each symbol the range of its image and the round in which it was set; an
+-- image of another round does not count.
 use Rattle.std.specs.Prelude.{ℕ, suc, ◌≤◌, ◌==◌, if◌then◌else◌, List, [], ◌∷◌}
 use Rattle.subst.specs.declared.symbol_range.SymbolRange.{SymbolRange}
 

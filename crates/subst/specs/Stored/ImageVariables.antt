@@ -1,7 +1,8 @@
 -- The places of the variables of images.
 -- Metamath, 4.2.6: the images of variables.
--- The code reads an image once in a citation, and keeps the words of a long one's variables for a whole proof.
-use Rattle.std.specs.Prelude.{◌≡◌, ℕ, ◌<◌, ◌≤◌, ◌⊎◌, List, ◌∷◌, [], ◌++◌, length, get_or}
+-- The code reads an image once in a citation, and keeps the words of a long one's variables for a
+-- whole proof.
+use Rattle.std.specs.Prelude.{◌≡◌, ℕ, ◌<◌, ◌≤◌, ◌⊎◌, List, ◌∷◌, [], ◌++◌, length, get_or, take}
 use Rattle.subst.specs.Words.{All, Numbered, code_image}
 use Rattle.subst.specs.SymbolRanges.{symbols_in, images_at}
 use Rattle.subst.specs.declared.symbol_range.SymbolRange.{SymbolRange}
@@ -12,8 +13,8 @@ use Rattle.subst.specs.declared.image_variables.LongImage.{LongImage}
 use Rattle.subst.specs.Stored.PlaceSets.{AddsSymbols, HasBit, HasPlace, no_word}
 use Rattle.subst.specs.Stored.VariablePlaces.{MetVariables, ArePlacesOf, IsAmong}
 
--- words of bits; the words of the image that is being read; the number of words of long images, which are the first; the images
--- that were read in this citation; the long images
+-- words of bits; the words of the image that is being read; the number of words of long images,
+-- which are the first; the images that were read in this citation; the long images
 pub record RecordedImages : Type 0 where
   pub words : List PlaceWord
   pub current : List PlaceWord
@@ -35,7 +36,8 @@ pub record IsWordRangeOf (v : Numbered) (f : MetVariables) (words : List PlaceWo
   pub high : r.end ≤ length words
   pub are : ArePlacesOf v f (RangeHasPlace words r) (IsAmong (length image) image)
 
--- the record of a long image: its range of words has the places of its variables, and is among the kept ones
+-- the record of a long image: its range of words has the places of its variables, and is among the
+-- kept ones
 pub record IsLongImage (v : Numbered) (f : MetVariables) (symbols : List ℕ) (words : List PlaceWord) (kept : ℕ) (e : LongImage) : Type 0 where
   pub low : e.image.start ≤ e.image.end
   pub high : e.image.end ≤ length symbols
@@ -53,9 +55,14 @@ pub record AreReadImages (v : Numbered) (f : MetVariables) (symbols : List ℕ) 
 
 -- ---- what the calls change
 
+-- the long images remain, with their words; `current` is empty
+abbrev pub with_long_images_only : RecordedImages → RecordedImages
+with_long_images_only n = record { words = take n.kept_len n.words; current = []; kept_len = n.kept_len; read_images = []; long_images = n.long_images }
+
 -- words are appended, and `current` may change
 abbrev pub AppendsAndChangesCurrent : RecordedImages → RecordedImages → Type 0
-AppendsAndChangesCurrent old new = (more : List PlaceWord) × (list : List PlaceWord) × (new ≡ record { words = old.words ++ more; current = list; kept_len = old.kept_len; read_images = old.read_images; long_images = old.long_images })
+AppendsAndChangesCurrent old new = (more : List PlaceWord) × (list : List PlaceWord)
+    × (new ≡ record { words = old.words ++ more; current = list; kept_len = old.kept_len; read_images = old.read_images; long_images = old.long_images })
 
 -- words are appended
 abbrev pub GrowsWords : RecordedImages → RecordedImages → Type 0
@@ -63,7 +70,8 @@ GrowsWords old new = (more : List PlaceWord) × (new.words ≡ old.words ++ more
 
 -- only `current` may change
 abbrev pub ChangesOnlyCurrent : RecordedImages → RecordedImages → Type 0
-ChangesOnlyCurrent old new = (list : List PlaceWord) × (new ≡ record { words = old.words; current = list; kept_len = old.kept_len; read_images = old.read_images; long_images = old.long_images })
+ChangesOnlyCurrent old new = (list : List PlaceWord)
+    × (new ≡ record { words = old.words; current = list; kept_len = old.kept_len; read_images = old.read_images; long_images = old.long_images })
 
 -- the words of `current` are appended, in this range
 pub record AppendsCurrent (old new : RecordedImages) (r : WordRange) : Type 0 where
@@ -81,7 +89,8 @@ AddsImage v f old new image = AddsSymbols v f (HasPlace old.current) (HasPlace n
 
 -- the image of a symbol is recorded, or nothing changes
 abbrev pub RecordsReadImage : RecordedImages → RecordedImages → ℕ → WordRange → Type 0
-RecordsReadImage old new x r = (new ≡ old) ⊎ (new ≡ record { words = old.words; current = old.current; kept_len = old.kept_len; read_images = old.read_images ++ (record { symbol = x; words = r }) ∷ []; long_images = old.long_images })
+RecordsReadImage old new x r = (new ≡ old)
+    ⊎ (new ≡ record { words = old.words; current = old.current; kept_len = old.kept_len; read_images = old.read_images ++ (record { symbol = x; words = r }) ∷ []; long_images = old.long_images })
 
 -- `current` is recorded as the words of a long image, or no image is recorded
 abbrev pub RecordsLongImage : RecordedImages → RecordedImages → SymbolRange → Type 0

@@ -1,6 +1,7 @@
 -- Marks of the symbols of one active `$d`.
 -- Metamath, 4.2.6: each pair of variables, one from each of two images, is in an active `$d`.
--- The code marks the symbols of one `$d` by number and removes the mark of each variable of the images.
+-- The code marks the symbols of one `$d` by number and removes the mark of each variable of the
+-- images.
 use Rattle.std.specs.Prelude.{◌≡◌, ℕ, Bool, false, true, List, length, get_or}
 use Rattle.subst.specs.declared.place_words.PlaceWord.{PlaceWord}
 use Rattle.subst.specs.Stored.PlaceSets.{HasPlace}

@@ -1,6 +1,7 @@
 -- The places of the variables of one proof.
 -- Source: this project's representation of variables.
--- The code gives each variable a place when it is first met, and records of each other symbol that it is no variable.
+-- The code gives each variable a place when it is first met, and records of each other symbol that
+-- it is no variable.
 use Rattle.std.specs.Prelude.{◌≡◌, ℕ, ◌<◌, ◌⊎◌, Bool, true, false, List, length, get_or, Option, Some, None}
 use Rattle.subst.specs.Words.{bit_at, All, Contains, Name, is_variable, name_at, is_pair, Numbered}
 use Rattle.subst.specs.declared.variable_places.MetSymbol.{MetSymbol}

@@ -1,6 +1,8 @@
--- The votes under ballots other than the one first counted at a slot, in the order in which their ballots were first counted.
+-- The votes under ballots other than the one first counted at a slot, in the order in which their
+-- ballots were first counted.
 -- Source: this project's representation.
--- The code has the tally of the first ballot at each slot in a map, and all others in one table by slot and ballot.
+-- The code has the tally of the first ballot at each slot in a map, and all others in one table by
+-- slot and ballot.
 use Rattle.std.specs.Prelude.{◌≡◌, ◌≤◌, ℕ, suc, length, ◌==◌, ◌&&◌, Bool, List, [], ◌∷◌, Option, Some, None, if◌then◌else◌}
 use Rattle.synod.specs.Words.{entry_at, SLOTS, Ballot, Tally}
 use Rattle.synod.specs.Ballots.{is_same}
@@ -19,13 +21,15 @@ abbrev pub voters_among : List ((ℕ × Ballot) × List Bool) → ℕ → Ballot
 voters_among [] s b = no_voters
 voters_among (e ∷ es) s b = if (s == e.0.0) && is_same b e.0.1 then e.1 else voters_among es s b
 
--- the tallies of the slots from s on, for each slot that of the first ballot before those in the table
+-- the tallies of the slots from s on, for each slot that of the first ballot before those in the
+-- table
 abbrev pub tallies_from : ℕ → List (Option Tally) → (ℕ → List Tally) → List (Option (List Tally))
 tallies_from s [] other_tallies = []
 tallies_from s (None ∷ firsts) other_tallies = None ∷ tallies_from (suc s) firsts other_tallies
 tallies_from s (Some t ∷ firsts) other_tallies = Some (t ∷ other_tallies s) ∷ tallies_from (suc s) firsts other_tallies
 
--- a slot without a first tally has none in the table, and no value is learned at a slot from SLOTS on
+-- a slot without a first tally has none in the table, and no value is learned at a slot from SLOTS
+-- on
 pub record IsLearner {T : Type 0} (firsts : List (Option Tally)) (other_tallies : ℕ → List Tally) (learned : List (Option T)) : Type 0 where
   pub first : (s : ℕ) → entry_at firsts s ≡ None → other_tallies s ≡ []
   pub within : length learned ≤ SLOTS

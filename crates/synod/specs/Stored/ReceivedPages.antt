@@ -2,9 +2,10 @@
 -- Source: this project's representation.
 -- The code has a map of pages for each node, with its capacity.
 use Rattle.std.specs.Prelude.{ℕ, List, Option, map, slice_set}
-use Rattle.synod.specs.Words.{SlotsView, put_at, SlotReport}
+use Rattle.synod.specs.Words.{SlotsView, put_at, SlotReport, Heard}
 use Rattle.synod.specs.declared.promise_pages.PagesWithDelivered.{PagesWithDelivered}
 use Rattle.synod.specs.Node.{pages_from, with_page}
+use Rattle.synod.specs.Proposer.{all_reports}
 
 -- the entries of each map
 abbrev pub entries_of : {T : Type 0} → List (SlotsView T) → List (List (Option T))
@@ -20,3 +21,7 @@ put_page pages k i reports = slice_set pages k (put_at (pages_from pages k) i re
 -- the pages received before, and the one just delivered
 abbrev pub pages_after_delivery : {V : Type 0} → PagesWithDelivered V → List (List (Option (List (SlotReport V))))
 pages_after_delivery w = with_page (entries_of w.pages.now) w.node w.page w.reports.now
+
+-- the reports of all nodes heard, in the pages received before and the one just delivered
+abbrev pub reports_after_delivery : {V : Type 0} → PagesWithDelivered V → List Heard → List (SlotReport V)
+reports_after_delivery w heard = all_reports (pages_after_delivery w) heard

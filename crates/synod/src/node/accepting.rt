@@ -18,8 +18,8 @@ impl<V: Value> NodeCore<V> {
     ghost use Rattle.synod.specs.Capacity.{KeepsCapacity};
     ghost use Rattle.synod.specs.Ready.{IsReadyFor};
 
-    /// Stages a Nack to the proposer `from`, which says that `ballot` is refused and which ballot this node has
-    /// promised.
+    /// Stages a Nack to the proposer `from`, which says that `ballot` is refused and which ballot
+    /// this node has promised.
     fn stage_nack_to(&self, from: u8, ballot: Ballot) -> Result<Ready<V>, AllocError>
         ensures { IfOk result (IsReadyFor self.now (sends_nack self.now.node from ballot)) }
     {

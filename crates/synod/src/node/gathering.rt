@@ -1,4 +1,5 @@
-//! Stages the steps of a proposer that gathers pages of promises. A node is heard once all pages of its promise are received.
+//! Stages the steps of a proposer that gathers pages of promises. A node is heard once all pages of
+//! its promise are received.
 ghost use Rattle.std.specs.Prelude.{◌≡◌, ◌<◌, ◌≤◌, ◌++◌, ◌∷◌, [], IfOk, Some, List, length};
 ghost use Rattle.std.specs.List.{AllByRecursion};
 ghost use Rattle.slots.specs.declared.slots.TheConstants.{SLOTS};
@@ -16,8 +17,8 @@ use std::alloc::AllocError;
 impl<V: Value> NodeCore<V> {
     ghost use Rattle.synod.specs.Weights.{is_quorum};
     ghost use Rattle.synod.specs.Packets.{IsPage, IsReport};
-    ghost use Rattle.synod.specs.Node.{is_heard, with_page};
-    ghost use Rattle.synod.specs.Proposer.{on_promise, on_promise_page, leads_with, adds_page, completes_promise};
+    ghost use Rattle.synod.specs.Node.{is_heard};
+    ghost use Rattle.synod.specs.Proposer.{on_promise, on_page_of, leads_with_page, receives_page, receives_last_page};
     ghost use Rattle.synod.specs.Step.{PreservesInvariant};
     ghost use Rattle.synod.specs.Capacity.{KeepsCapacity};
     ghost use Rattle.synod.specs.Ready.{IsReadyFor};
@@ -31,8 +32,8 @@ impl<V: Value> NodeCore<V> {
     ) -> Result<Ready<V>, AllocError>
         requires node { node < length self.old.node.pages }
         requires page { page < SLOTS }
-        requires preserves { PreservesInvariant (length self.old.node.weights) (adds_page self.old.node (with_page self.old.node.pages node page reports.now)) }
-        ensures ready { IfOk result (IsReadyFor self.new (adds_page self.old.node (with_page self.old.node.pages node page reports.now))) }
+        requires preserves { PreservesInvariant (length self.old.node.weights) (receives_page self.old.node node page reports.now) }
+        ensures ready { IfOk result (IsReadyFor self.new (receives_page self.old.node node page reports.now)) }
         ensures node { self.new.node ≡ self.old.node }
         ensures capacity { KeepsCapacity self.old self.new }
     {
@@ -58,8 +59,8 @@ impl<V: Value> NodeCore<V> {
     ) -> Result<Ready<V>, AllocError>
         requires node { heard.node < length self.old.node.pages }
         requires page { page < SLOTS }
-        requires preserves { PreservesInvariant (length self.old.node.weights) (completes_promise self.old.node (with_page self.old.node.pages heard.node page reports.now) (self.old.node.heard ++ heard ∷ [])) }
-        ensures ready { IfOk result (IsReadyFor self.new (completes_promise self.old.node (with_page self.old.node.pages heard.node page reports.now) (self.old.node.heard ++ heard ∷ []))) }
+        requires preserves { PreservesInvariant (length self.old.node.weights) (receives_last_page self.old.node heard page reports.now) }
+        ensures ready { IfOk result (IsReadyFor self.new (receives_last_page self.old.node heard page reports.now)) }
         ensures node { self.new.node ≡ self.old.node }
         ensures capacity { KeepsCapacity self.old self.new }
     {
@@ -100,8 +101,8 @@ impl<V: Value> NodeCore<V> {
         requires first { first ≤ SLOTS }
         requires page { page < SLOTS }
         requires each { AllByRecursion IsReport reports.now }
-        requires preserves { PreservesInvariant (length self.old.node.weights) (on_promise_page self.old.node heard.node ballot first heard.count (with_page self.old.node.pages heard.node page reports.now)) }
-        ensures ready { IfOk result (IsReadyFor self.new (on_promise_page self.old.node heard.node ballot first heard.count (with_page self.old.node.pages heard.node page reports.now))) }
+        requires preserves { PreservesInvariant (length self.old.node.weights) (on_page_of self.old.node ballot first heard page reports.now) }
+        ensures ready { IfOk result (IsReadyFor self.new (on_page_of self.old.node ballot first heard page reports.now)) }
         ensures node { self.new.node ≡ self.old.node }
         ensures capacity { KeepsCapacity self.old self.new }
     {
@@ -139,8 +140,8 @@ impl<V: Value> NodeCore<V> {
         requires node { node < length self.now.node.pages }
         requires first { first ≤ SLOTS }
         requires each { AllByRecursion IsReport reports.now }
-        requires preserves { PreservesInvariant (length self.now.node.weights) (leads_with self.now.node ballot first (with_page self.now.node.pages node page reports.now) heard.now) }
-        ensures { IfOk result (IsReadyFor self.now (leads_with self.now.node ballot first (with_page self.now.node.pages node page reports.now) heard.now)) }
+        requires preserves { PreservesInvariant (length self.now.node.weights) (leads_with_page self.now.node ballot first node page reports.now heard.now) }
+        ensures { IfOk result (IsReadyFor self.now (leads_with_page self.now.node ballot first node page reports.now heard.now)) }
     {
         let delivered = PagesWithDelivered {
             pages: self.proposer.pages(),

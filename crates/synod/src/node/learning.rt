@@ -101,8 +101,8 @@ impl<V: Value> NodeCore<V> {
         }
     }
 
-    /// Returns whether the nodes counted at a slot under a ballot are a quorum once `node` is counted: the value that
-    /// they accepted is then chosen.
+    /// Returns whether the nodes counted at a slot under a ballot are a quorum once `node` is
+    /// counted: the value that they accepted is then chosen.
     fn completes_quorum(&self, slot: u32, ballot: Ballot, node: u8) -> bool
         requires { node < MAX_NODES }
         ensures { result ≡ is_quorum self.now.node.weights (has_voter (counted self.now.node.tallies slot ballot node) slot ballot) }
@@ -111,8 +111,8 @@ impl<V: Value> NodeCore<V> {
         self.weights.is_quorum(&voters)
     }
 
-    /// Returns Asks to all other nodes for `gap`, the first gap once a value is learned at `slot`, if it is below
-    /// `slot`.
+    /// Returns Asks to all other nodes for `gap`, the first gap once a value is learned at `slot`,
+    /// if it is below `slot`.
     fn asks_others_for_first_gap(&self, slot: u32, gap: u32) -> Result<Vec<Packet<V>>, AllocError>
         ensures { IfOk result (λ posts. posts.items ≡ asks_below self.now.node slot gap) }
     {
@@ -123,8 +123,8 @@ impl<V: Value> NodeCore<V> {
         broadcast_posts(self.alloc, self.me, &self.weights, &message)
     }
 
-    /// Stages an update that learns a chosen value, and asks for `gap`, the first gap once it is learned, if that is
-    /// below the slot.
+    /// Stages an update that learns a chosen value, and asks for `gap`, the first gap once it is
+    /// learned, if that is below the slot.
     fn stage_chosen(
         &self,
         update: LearnerUpdate<V>,
@@ -139,8 +139,8 @@ impl<V: Value> NodeCore<V> {
         Ok(self.stage_learner_update(update, posts))
     }
 
-    /// Stages an update that learns a value that `from` sent in a Told, and asks `from` for `gap`, the first gap once
-    /// it is learned, unless the log is then full.
+    /// Stages an update that learns a value that `from` sent in a Told, and asks `from` for `gap`,
+    /// the first gap once it is learned, unless the log is then full.
     fn stage_told_value(
         &self,
         update: LearnerUpdate<V>,

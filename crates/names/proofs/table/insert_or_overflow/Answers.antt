@@ -1,4 +1,4 @@
-use Rattle.names.proofs.Words.{◌≡◌, ◌≢◌, ◌∙◌, ap, sym, subst, arith, get_or, ℕ, ◌+◌, List, Some, slice_set, get_or_read, AreBytes, code_in_overflow, IsFree, AreReachable, AreNameKeys, OverflowGrows}
+use Rattle.names.proofs.Words.{◌≡◌, ◌≢◌, ◌∙◌, ap, sym, subst, arith, get_or, ℕ, ◌+◌, List, Some, slice_set, get_or_read, AreBytes, code_in_overflow, IsFirstFreeSlot, AreReachable, AreNameKeys, OverflowGrows}
 use Rattle.names.proofs.TableLemmas.{put-reachable}
 use Rattle.names.proofs.NameKeyLemmas.{either, on-ok, reachable-passed, name_keys-overflow, name_keys-failed, grows-overflow, reachable-overflow}
 use Rattle.names.proofs.table.insert_or_overflow.Goals as goal
@@ -19,7 +19,7 @@ returns-in-Some-clause-reachable c =
     let is : key ≡ get_or a.keys.items n 0 = get_or_read a.keys.items n key k.there c.index-key.ensures 0 in
     let lt = c.requires.code in
     let few = c.requires.few in
-    let free : IsFree c.args.slots.now.items key c.in-Some.at = subst (λ s. IsFree s key c.in-Some.at) c.as_slice.ensures.value c.in-Some.ensures in
+    let free : IsFirstFreeSlot c.args.slots.now.items key c.in-Some.at = subst (λ s. IsFirstFreeSlot s key c.in-Some.at) c.as_slice.ensures.value c.in-Some.ensures in
     subst (λ s. AreReachable (n + 1) (slice_set c.args.slots.now.items c.in-Some.at s) a c.args.name_list.now) (sym c.make_slot.ensures)
     (put-reachable c.args.slots.now.items a c.args.name_list.now key c.in-Some.at n (is ∙ k.key (λ z. c.if-key-eq-IN_OVERFLOW.false (is ∙ z))) (omega (arith, lt, few)) c.requires.reachable free)
 

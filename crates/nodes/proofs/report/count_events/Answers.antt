@@ -20,5 +20,5 @@ loop-event-preserved g c = record {
 pub returns : goal.returns
 returns g c =
     let all : take c.loop-event.event-index c.history-history.result.now ≡ c.history-history.result.now = take_all _ _ (omega (arith, c.loop-event-test.false)) in
-    report_of c.args.switch.now c.args.node_count c.loop-event.handled.items c.history-history.ensures.taken
+    report_of c.args.switch.now c.args.node_count c.loop-event.handled.items c.history-history.ensures.history_taken
     (λ w is. c.loop-event.invariant.counts w is ∙ ap (λ (es : List (Event Carried)). event_counts w 0 c.args.node_count es) (all ∙ c.history-history.ensures.history))

@@ -1,4 +1,4 @@
-use Rattle.names.proofs.Words.{◌≡◌, ◌∙◌, ap, sym, subst, ◌<◌, slice_set, rules, false, refl, has_name, NO_NAME, name_at, code_in_overflow, IsFree}
+use Rattle.names.proofs.Words.{◌≡◌, ◌∙◌, ap, sym, subst, ◌<◌, slice_set, rules, false, refl, has_name, NO_NAME, name_at, code_in_overflow, IsFirstFreeSlot}
 use Rattle.names.proofs.NameKeyLemmas.{none-is}
 use Rattle.names.proofs.PutLemmas.{Holds, names-same, names-put, names-put_in_overflow}
 use Rattle.names.proofs.names.NameTable.add.Goals as goal
@@ -25,7 +25,7 @@ invariant_of-self-in-Some c =
     let n = c.len-code.result in
     let few : n < NO_NAME = search rules in
     let fresh : has_name c.args.name.now c.self.inside.name_list ≡ false = ap (has_name c.args.name.now) (c.self.view_is ∙ c.in_ok-make_room.ensures) ∙ c.requires in
-    let free : IsFree slots key.result c.in-Some.at = subst (λ s. IsFree s key.result c.in-Some.at) c.as_slice.ensures.value c.in-Some.ensures in
+    let free : IsFirstFreeSlot slots key.result c.in-Some.at = subst (λ s. IsFirstFreeSlot s key.result c.in-Some.at) c.as_slice.ensures.value c.in-Some.ensures in
     subst (λ s. Holds (slice_set slots c.in-Some.at s) c.push.new.self c.push-in-Some.new.self) (sym c.make_slot.ensures)
     (names-put slots c.self.inside.name_keys c.push.new.self c.self.inside.name_list c.push-in-Some.new.self c.args.name.now n key.result c.in-Some.at c.in_ok-push-in-Some-2.ensures.ok c.self.invariant c.len-code.ensures few fresh
     e.overflow e.same e.more e.last key.ensures.key key.ensures.not_overflow key.ensures.bytes free)

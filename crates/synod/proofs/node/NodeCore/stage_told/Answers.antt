@@ -1,4 +1,4 @@
-use Rattle.synod.proofs.Words.{◌≡◌, ap, sym, subst, None, entry_at, StepResult, Core, assembled, core_of, IsNode, on_told}
+use Rattle.synod.proofs.Words.{◌≡◌, ap, subst, None, entry_at, StepResult, Core, assembled, core_of, IsNode, on_told}
 use Rattle.synod.proofs.AcceptedLemmas.{none_is, told_step, ready_for}
 use Rattle.synod.proofs.RoomLemmas.{learner_room}
 use Rattle.synod.proofs.node.NodeCore.stage_told.Goals as goal

@@ -20,7 +20,8 @@ returns-then-not-branch-clause-answer c =
     one-listed c.args.frames.now.statements c.args.at s c.args.tokens.now c.requires.provable.1 c.requires.compressed _ _ _ _ (rw c.in-Some.is at c.in_ok-heading.ensures.read)
     c.in_ok-add_listed.field-0 c.if-not-branch.true (c.in_ok-add_listed.ensures.apart s c.requires.provable.1)
 
--- the viewed hypotheses and the table are the meanings of the mandatory labels and the listed labels
+-- the viewed hypotheses and the table are the meanings of the mandatory labels and the listed
+-- labels
 entries : (S : Database) (at : ℕ) (s : Stmt) (view : List ℕ) (listed : List Name) (old table copy : List LabelEntry) → IsProvable S at s → view ≡ hypotheses (before S at) s → old ≡ [] → copy ≡ table
     → ((front : List Name) → AreEntries S at front old → AreEntries S at (front ++ listed) table) → AreEntries S at (mandatory_labels S at s ++ listed) (map Hypothesis view ++ copy)
 entries S at s view listed old table copy provable is empty same more =
