@@ -56,7 +56,7 @@ fn count_line_feeds(text: &[u8]) -> usize
 
 /// Appends the lines of an event.
 ///
-/// The clause `in_range` states the bounds of the types of its fields, for the proof of `parses`.
+/// The clause `in_range` states what the types of its fields ensure, for the proof of `parses`.
 fn push_event(text: &mut Vec<u8>, event: &Event<Carried>) -> Result<(), AllocError>
     ensures text { OnOk result (text.new.items ≡ text.old.items ++ lines_of_event event.now) }
     ensures in_range { OnOk result (EventIsInRange event.now) }

@@ -7,7 +7,8 @@
 //! value that packets carry.
 //!
 //! In a clause `text.old` and `text.new` are the text before and after the call, `a.now` is what a
-//! shared reference `a` refers to, and `OnOk result P` says P if the result is `Ok`.
+//! shared reference `a` refers to, `text.items` are the bytes of a vector, `OnOk result P` says P
+//! if the result is `Ok`, and `IfOk result P` says P of the value of such a result.
 #![tactic(auto)]
 
 mod events;

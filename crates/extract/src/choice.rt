@@ -27,7 +27,7 @@ struct SymbolRecord {
     float: usize,
     /// An active `$e` that is included and contains it.
     covered_by: usize,
-    /// The last included assertion that has it as a variable, in its expression or in its proof.
+    /// The last assertion for which it was recorded in `other_variables`.
     variable_of: usize,
 }
 
@@ -46,7 +46,8 @@ struct Choice<'a> {
     active: Vec<usize>,
     /// The number of these that are before the last included assertion.
     active_before_last: usize,
-    /// The variables of the visited assertion that no active, included `$e` contains.
+    /// The variables of the visited assertion, in its expression or its proof, that no active,
+    /// included `$e` contained when they were recorded.
     other_variables: Vec<usize>,
     /// The active `$d`.
     disjoint: DisjointLists,
@@ -55,8 +56,8 @@ struct Choice<'a> {
     blocks: Vec<Block>,
 }
 
-/// Returns for each statement whether the extract includes it: the assertions of the labels, all
-/// that their proofs cite, the hypotheses of these, the `$d` with two of their variables, the
+/// Returns for each statement whether the extract includes it: the assertions of the labels, what
+/// they rest on (`cited_marks`), the hypotheses of these, the `$d` with two of their variables, the
 /// declarations of the symbols of all these, and the blocks in which an assertion is included.
 ///
 /// Cost: the statements, each `$e` and `$d` once; for each included assertion its own expression

@@ -8,7 +8,8 @@ use std::alloc::{AllocError, Global};
 
 /// Returns for each statement whether it is marked: if it has one of the labels, or the proof of a
 /// marked statement cites or lists it. A proof cites only earlier statements, so the statements are
-/// visited from the last to the first.
+/// visited from the last to the first. Of a later statement that is only listed, which is no
+/// citation, the proof is not visited.
 pub(crate) fn cited_marks(
     alloc: Global,
     library: &Library,

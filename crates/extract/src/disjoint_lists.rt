@@ -147,7 +147,7 @@ impl DisjointLists {
     ///
     /// Cost: the number of `$d` that contain a variable of `other_variables`, times a logarithm;
     /// for the variable with the most `$d`, only those not visited since a variable last became
-    /// covered.
+    /// covered. Also each `$d` that was added since the last call.
     pub(crate) fn find_needed(
         &mut self,
         at: usize,
@@ -180,8 +180,12 @@ impl DisjointLists {
         most
     }
 
-    /// Counts a variable of the assertion at a position in the `$d` that contain it. In each `$d`
-    /// that is visited, the variable `most` is counted too, if the `$d` contains it.
+    /// Counts a variable of the assertion at a position in the `$d` that contain it and are not
+    /// included. In each of these the variable `most` is counted too, if the `$d` contains it.
+    ///
+    /// `most` itself visits only the `$d` that it has not visited since a variable last became
+    /// covered: an older one is needed only if it has another of the `other_variables`, which then
+    /// visits it.
     fn count_variable(
         &mut self,
         at: usize,
@@ -209,7 +213,7 @@ impl DisjointLists {
 
     /// Counts one more variable of the assertion at a position in a `$d`, if `is_counted`, and
     /// appends the position of the `$d` if the count is 2 or more. The first call for an assertion
-    /// starts from the covered variables, plus one if `has_most`.
+    /// and a `$d` starts from the covered variables, plus one if `has_most`.
     fn count_in(
         &mut self,
         at: usize,

@@ -19,8 +19,9 @@ use std::alloc::{AllocError, Global};
 ///
 /// Errors: `NoLabel`, `NotAssertion` or `SameLabel` for the first wrong label, even if every
 /// allocation fails; else `Memory`.
-/// Cost: that of verifying the proofs of the extract, a pass over the rules of all statements, and
-/// a comparison of each label with each assertion and each earlier label. Source: Metamath, 4.2.
+/// Cost: that of verifying the proofs of the extract, a pass over the rules of all statements, a
+/// comparison of each label with each assertion and each earlier label, and the active `$d` that
+/// have variables of the assertions taken, as `docs/COSTS.md` says. Source: Metamath, 4.2.
 pub fn extract(alloc: Global, library: &Library, labels: &[&str]) -> Result<Vec<u8>, ExtractFault>
     ensures extract { IfOk result (λ text. IsExtract library.now.replica.statements (map (λ label. label.now) labels.now) text.items) }
     ensures wrong { (fault : Fault) → IsFirstLabelFault library.now.replica.statements [] (map (λ label. label.now) labels.now) fault → result ≡ Err fault }
@@ -42,7 +43,7 @@ fn extract_text(alloc: Global, library: &Library, labels: &[&str]) -> Result<Vec
 }
 
 /// Returns that text. The chosen statements are added to `part`, an empty library, which stays
-/// empty if they are not good.
+/// empty if they are not good or their text is too long for one entry.
 fn extract_text_with(
     alloc: Global,
     library: &Library,
@@ -72,7 +73,8 @@ fn chosen_text(alloc: Global, library: &Library, labels: &[&str]) -> Result<Vec<
     Ok(text)
 }
 
-/// Adds the statements of a text to a library, if they are good there.
+/// Adds the statements of a text to a library, if they are good there and the text is not too long
+/// for one entry.
 fn add_text(text: Vec<u8>, part: &mut Library) -> Result<(), AllocError> {
     let text = Bytes::from_vec(text).map_err(AllocError::from)?;
     let entry = Entry::Text(Submission {

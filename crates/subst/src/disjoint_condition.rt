@@ -13,9 +13,8 @@ use mm_lex::Words;
 /// each, is in a `$d` that is active at the theorem.
 ///
 /// Numbers stand for the names that they have at the theorem, in the images too.
-/// Cost: for each two variables that the frame makes disjoint, the size of their images and of the
-/// active `$d`, if one of these has the variables of both images; else, for each pair of variables,
-/// one from each, the active `$d`.
+/// Cost: that of `Pairs::are_disjoint` for the images of each two variables that the frame makes
+/// disjoint.
 /// Source: Metamath, 4.2.6.
 pub fn disjoint(subst: &Subst, frame: &Frame, pairs: &Pairs<'_>) -> bool
     requires { AreOver pairs.now.names subst.now }

@@ -39,8 +39,8 @@ pub struct RowWord {
 /// for each place that was found to be disjoint from it, in words of 64 bits. A bit that is set is
 /// a fact; one that is not set says nothing.
 ///
-/// A hint says where in the list a word may be. Words and hints take at most 24 MB, since variables
-/// beyond the first 8,192 are not recorded.
+/// A hint says where in the list a word may be. Words and hints take at most about 24 MiB, since
+/// variables beyond the first 8,192 are not recorded.
 #[derive(Drop)]
 pub struct DisjointRows {
     /// The index that a word may have in `words`.

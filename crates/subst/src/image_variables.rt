@@ -1,4 +1,4 @@
-//! The places of the variables of images. An image is read once in a citation.
+//! The places of the variables of images. An image is read once or twice in a citation.
 ghost use Rattle.std.specs.Prelude.{◌≡◌, ◌<◌, ◌≤◌, ◌++◌, ◌∷◌, [], ℕ, get_or, length, slice_range, true, IfOk, IfSome, OnErr, OnOk};
 ghost use Rattle.std.specs.List.{Contains};
 ghost use Rattle.frame.specs.Below.{AreBelow};
@@ -23,8 +23,8 @@ use std::marker::Model;
 pub const LONG_RESULT: usize = 1024;
 
 /// The words of a result's variables are recorded if they are at most the number of its symbols
-/// over this: with more words, reading them would cost about as much as reading the result, and
-/// they would need about as much memory.
+/// divided by this: with more words, reading them would cost about as much as reading the result,
+/// and they would need about as much memory.
 const SYMBOLS_PER_WORD: usize = 8;
 
 /// A range of a list of words: from `start` up to, and not including, `end`.

@@ -8,7 +8,8 @@
 //! whether images meet the disjoint variable condition.
 //!
 //! The place of a variable is its index in `VariablePlaces`; a word has a bit for each of 64
-//! places.
+//! places. Only in `remaining_symbols` are places something else: the indexes at which each symbol
+//! of an expression occurs (`SymbolPlaces` of `entries`).
 //!
 //! Reading order: `symbol_range`, `image_ranges`, `copies`, `writing`, `matching`, `buffer`,
 //! `remaining_symbols`, `images`, `disjoint_condition`; `hints`, `variable_places`, `place_words`,

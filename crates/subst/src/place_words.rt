@@ -5,7 +5,7 @@ ghost use Rattle.std.specs.Int.{bit_at};
 /// Some of 64 places, as bits. A place is the index of a variable in `VariablePlaces`.
 #[derive(Clone, Copy, Drop)]
 pub struct PlaceWord {
-    /// The first of the 64 places, over 64.
+    /// The first of the 64 places, divided by 64.
     pub index: u32,
     /// One bit for each of the 64 places, the lowest for the first.
     pub bits: u64,

@@ -13,7 +13,7 @@ use std::alloc::{AllocError, Global};
 use std::marker::Model;
 
 /// The symbols that are found are few if they are at most the number of symbols of the expression
-/// over this. If there are more, reading the whole expression costs about as much.
+/// divided by this. If there are more, reading the whole expression costs about as much.
 const FEW_LEFT_DIVISOR: usize = 4;
 
 /// A key is a position times this, plus a symbol.

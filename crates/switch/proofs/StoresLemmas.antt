@@ -1,5 +1,5 @@
 -- Stores and their views, as lists and one by one.
-use Rattle.switch.proofs.Words.{◌≡◌, ◌≢◌, ℕ, zero, suc, ◌+◌, ◌<◌, ◌≤◌, ◌==◌, Bool, true, false, List, [], ◌∷◌, ◌++◌, length, get_or, set, slice_get, Option, Some, None, refl, ap, sym, ◌∙◌, subst, arith, le_of_suc-le-suc, AllByRecursion, nat_tests, KeptPart, new_kept, Node, Event, StagedEvent, at_set, at_set_other, Status, up, down, StoreState, StoreView, status_view, view_of, views_of, new_views, new_stores, is_down, is_down_view, is_down_at, pending_events}
+use Rattle.switch.proofs.Words.{◌≡◌, ◌≢◌, ℕ, zero, suc, ◌<◌, ◌≤◌, ◌==◌, Bool, true, false, List, [], ◌∷◌, ◌++◌, length, get_or, set, slice_get, Option, Some, None, refl, ap, sym, ◌∙◌, subst, arith, le_of_suc-le-suc, AllByRecursion, nat_tests, KeptPart, new_kept, Node, Event, StagedEvent, at_set, at_set_other, Status, up, down, StoreState, StoreView, status_view, view_of, views_of, new_views, new_stores, is_down, is_down_view, is_down_at, pending_events}
 
 pub views_of-set : {V : Type 0} (stores : List (StoreState V)) (k : ℕ) (store : StoreState V) → views_of (set stores k store) ≡ set (views_of stores) k (view_of store)
 views_of-set [] k store = refl

@@ -162,15 +162,23 @@ abbrev pub pending_events : {V : Type 0} → Option (Event V) → List (Event V)
 pending_events None = []
 pending_events (Some e) = e ∷ []
 
+-- the history with the pending event, if there is one, and then the restart of node k
+abbrev pub recovered_history : {V : Type 0} → SwitchView V → Option (Event V) → ℕ → List (Event V)
+recovered_history old e k = old.history ++ pending_events e ++ Restart k ∷ []
+
 -- node k is up again with the record that its keep loaded: the pending event, if there is one, and
 -- then the restart are taken
 pub record IsRecovered {V : Type 0} (size : V → ℕ) (old new : SwitchView V) (k : ℕ) (view : StoreView V) (e : Option (Event V)) (count : ℕ) : Type 0 where
   pub world : World V
-  pub is_after : IsAfter size old.weights (old.history ++ pending_events e ++ Restart k ∷ []) world
+  pub is_after : IsAfter size old.weights (recovered_history old e k) world
   pub counted : count ≡ length world.packets
   pub kept : KeptPart V
   pub is_kept : kept_part world k ≡ Some kept
-  pub rest : new ≡ record { weights = old.weights; history = old.history ++ pending_events e ++ Restart k ∷ []; stores = slice_set old.stores k record { kept = kept; failures = view.failures; status = up } }
+  pub rest : new ≡ record {
+    weights = old.weights;
+    history = recovered_history old e k;
+    stores = slice_set old.stores k record { kept = kept; failures = view.failures; status = up };
+  }
 
 -- an allocation failed: everything but the record is as before
 pub record StaysDownAt {V : Type 0} (old new : SwitchView V) (k : ℕ) (view : StoreView V) (change : Option (Change V)) : Type 0 where
@@ -205,7 +213,7 @@ pub record IsEffect {V : Type 0} (size : V → ℕ) (w : World V) (old new : Swi
   pub is_down : is_down_at old.stores (node_of w e) ≡ true → IsEffectAtDownNode size w old new e result
   pub is_up : is_down_at old.stores (node_of w e) ≡ false → IsEffectUnlessDown size w old new e result
 
--- no event of the old history meets a refusal; each node of the world after it has its store; and
+-- no event of the old history meets a fault; each node of the world after it has its store; and
 -- the event has its effect in that world
 pub record Plays {V : Type 0} (size : V → ℕ) (old new : SwitchView V) (e : Event V) (result : Result ℕ StepFault) : Type 0 where
   pub world : World V

@@ -1,5 +1,5 @@
-//! Plays an event: takes it to its node, if that is up or is restarted. No other public call
-//! changes a switch.
+//! Plays an event at its node, if that is up or is restarted. No other public call changes a
+//! switch.
 ghost use Rattle.std.specs.Prelude.{◌≡◌, Some, false};
 ghost use Rattle.std.specs.Result.{ForOk};
 ghost use Rattle.net.specs.KeptPart.{node_of};

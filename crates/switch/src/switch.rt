@@ -64,7 +64,7 @@ impl<V: Value, K: Keep<V>> Switch<V, K> {
     }
 
     /// Returns entry `slot` of the log of node `k`, if it has one, or `NoNode` if there is no such
-    /// node. It does not allocate.
+    /// node. An entry that is itself `None` is a no-operation. Does not allocate.
     pub fn entry(&self, k: u8, slot: u32) -> Result<Option<&Option<V>>, StepFault>
         ensures entry { IfOk result (IsLogEntry (world_of V.bytes self.now) k slot) }
         ensures below { IfOk result (λ found. IsSome found → slot < SLOTS) }

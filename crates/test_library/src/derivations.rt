@@ -12,8 +12,7 @@ use scope::Scope;
 use std::alloc::Global;
 use verify::{Answer, Tree, TreeFault, check, derivation};
 
-/// If an allocation fails, the same call made again returns the number of nodes. (`right` in the
-/// name means correct, not at once.)
+/// If an allocation fails, the same call made again returns the number of nodes.
 #[test]
 fn correct_after_a_failed_allocation(rt: HostRuntime) {
     for text in [NORMAL_EXAMPLE, COMPRESSED_EXAMPLE] {

@@ -1,16 +1,15 @@
 //! Tests of `library` and the crates below it that no row of the crate `rows` (an input with its
 //! printed output) can express: spans of tokens, items of proof tokens, texts read in parts, copies
-//! of a scope, frames of worked examples, simultaneous substitution, the tree of the book's first
-//! theorem, verdicts by several workers in parallel, texts of the greatest length, and results
-//! after a failed allocation.
+//! of a scope, frames of worked examples, simultaneous substitution, verdicts by several workers in
+//! parallel, texts of the greatest length, and results after a failed allocation.
 //!
 //! A test of failed allocations calls again what ran out of memory. By itself it runs with ample
-//! memory; `bench/failed_allocations` runs it once for each of its allocations, with that
-//! allocation failing.
+//! memory; `bench/failed_allocations` runs it for each of its allocations, at most 2,000, with that
+//! allocation failing, alone and with all later ones.
 //!
-//! Helpers that modules share: all of `pushed_statements` and `rendezvous`, and in modules that
-//! also have tests `text_entries` (`entry`, `with_new_library`, `verdict_on`) and `library_workers`
-//! (`verdict_by_workers`).
+//! Helpers of other modules: `pushed_statements` (for `derivations` and `pool_workers`) and
+//! `rendezvous`, and in modules that also have tests `text_entries` (`entry`, `with_new_library`,
+//! `verdict_on`) and `library_workers` (`verdict_by_workers`).
 #![tactic(auto)]
 
 #[cfg(test)]

@@ -1,4 +1,4 @@
-//! Any number of workers give the same verdict, and two workers run in parallel.
+//! 1, 2, 3 and 16 workers give the same verdict, and two workers run in parallel.
 ghost use Rattle.std.specs.Prelude.{◌≤◌};
 
 use crate::rendezvous::Rendezvous;

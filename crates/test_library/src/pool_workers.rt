@@ -41,7 +41,7 @@ fn gate_two_jobs(rt: HostRuntime) {
 
 /// Returns the answer of `check_all` for the proofs of a text: the index of the first wrong one, if
 /// one is wrong. Returns `None` in its place if the text does not read, a statement is not legal,
-/// or an allocation fails.
+/// or an allocation fails, except twice in a row for the items of one proof (`push_job`).
 fn answer_of<G: Gate + Sync, R: Threads + Sync>(
     rt: &R,
     alloc: Global,
@@ -181,8 +181,9 @@ fn items_with_retry(alloc: Global, tokens: &Words) -> Result<Items, CodeFault> {
     }
 }
 
-/// Adds the job of the statement that was pushed last, if it is a `$p`. Returns `None` if an
-/// allocation fails. A proof without items gets a job without items, which is not right.
+/// Adds the job of the statement that was pushed last, if it is a `$p`. Returns `None` if the job
+/// cannot be pushed. A proof whose items are not returned, even for lack of memory, gets a job
+/// without items, which is wrong.
 fn push_job(alloc: Global, frames: &Frames, stmt: &Stmt, jobs: &mut Vec<Job>) -> Option<()>
     requires { (S : Database) × (frames.now.statements ≡ S ++ bare stmt.now ∷ []) × AreJobs S jobs.old.items }
     ensures { AreJobs frames.now.statements jobs.new.items }

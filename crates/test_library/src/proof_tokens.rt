@@ -67,10 +67,10 @@ fn is_long_word_refused(alloc: Global) -> bool {
     }
 }
 
-/// Returns the tokens of a compressed proof whose one word of letters is 100,000 times `U`, and
-/// then `A`.
+/// Returns the tokens of a compressed proof whose one word of letters is 99,999 times `U`, and then
+/// `A`.
 fn tokens_with_long_word(alloc: Global) -> Result<Vec<u8>, AllocError> {
-    let mut word = vec![in alloc; b'U'; 100_000]?;
+    let mut word = vec![in alloc; b'U'; 99_999]?;
     word.extend_from_slice(b"A")?;
     let mut tokens = Vec::from_slice(alloc, b"( ) ")?;
     tokens.extend_from_slice(&word)?;

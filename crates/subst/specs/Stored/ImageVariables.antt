@@ -1,7 +1,7 @@
 -- The places of the variables of images.
 -- Metamath, 4.2.6: the images of variables.
--- The code reads an image once in a citation, and keeps the words of a long one's variables for a
--- whole proof.
+-- The code reads an image once or twice in a citation, and keeps the words of a long one's
+-- variables for a whole proof.
 use Rattle.std.specs.Prelude.{◌≡◌, ℕ, ◌<◌, ◌≤◌, ◌⊎◌, List, ◌∷◌, [], ◌++◌, length, get_or, take}
 use Rattle.subst.specs.Words.{All, Numbered, code_image}
 use Rattle.subst.specs.SymbolRanges.{symbols_in, images_at}
@@ -97,4 +97,11 @@ abbrev pub RecordsLongImage : RecordedImages → RecordedImages → SymbolRange 
 RecordsLongImage old new image =
     AppendsAndChangesCurrent old new
     ⊎ ((list : List PlaceWord)
-    × (new ≡ record { words = old.words ++ old.current; current = list; kept_len = length (old.words ++ old.current); read_images = old.read_images; long_images = old.long_images ++ (record { image = image; words = record { start = length old.words; end = length (old.words ++ old.current) } }) ∷ [] }))
+    × (new ≡ record {
+      words = old.words ++ old.current;
+      current = list;
+      kept_len = length (old.words ++ old.current);
+      read_images = old.read_images;
+      long_images = old.long_images
+          ++ (record { image = image; words = record { start = length old.words; end = length (old.words ++ old.current) } }) ∷ [];
+    }))
