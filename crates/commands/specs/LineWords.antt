@@ -3,7 +3,7 @@
 -- The code takes one word after another; here a definition returns the value of the first words and
 -- the words after them.
 use Rattle.std.specs.Prelude.{ℕ, Bool, true, false, List, [], ◌∷◌, Option, Some, None, option_map, option_and_then, nat_lt, if◌then◌else◌}
-use Rattle.numbers.specs.Numbers.{number_of}
+use Rattle.text.specs.Numbers.{number_of}
 use Rattle.commands.specs.Pieces.{split_at}
 use Rattle.commands.specs.declared.line_words.TheConstants.{SPACE}
 use Rattle.commands.specs.declared.line_words.NodeEntryId.{NodeEntryId}

@@ -7,7 +7,7 @@ use Rattle.library.specs.declared.entry.Entry.TheVariants.{Text, Charter}
 use Rattle.library.specs.Charters.{is_rising}
 use Rattle.commands.specs.declared.offered_entry.OfferedEntry.{OfferedEntry}
 use Rattle.commands.specs.declared.text_form.TextForm.{TextForm}
-use Rattle.numbers.specs.Numbers.{number_of}
+use Rattle.text.specs.Numbers.{number_of}
 use Rattle.commands.specs.LineWords.{◌>>=◌, Words, first_entry_id}
 use Rattle.commands.specs.Texts.{text_in_form}
 

@@ -12,7 +12,7 @@ use crate::weights::{WorkerCount, parse_weights};
 use clap::error::ErrorKind;
 use clap::{ArgMatches, Error};
 use finding::SearchQuery;
-use numbers::parse_number;
+use text::parse_number;
 use patterns::{Pattern, PatternFault, SearchWords};
 use std::alloc::{AllocError, Global};
 use synod::{MAX_NODES, Weights};

@@ -5,7 +5,7 @@ ghost use Rattle.commands.specs.LineWords.{first_number, one_number, node_of, fi
 ghost use Rattle.commands.specs.LineWords.{first_entry_id, one_entry_id, has_no_words, two_nodes};
 
 use crate::pieces::Pieces;
-use numbers::parse_number;
+use text::parse_number;
 
 /// The byte between two words of a line.
 pub const SPACE: u8 = b' ';

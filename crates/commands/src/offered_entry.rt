@@ -11,7 +11,7 @@ use crate::script::LineFault;
 use crate::text_form::{TextForm, take_text};
 use bytes::Bytes;
 use library::{Entry, MAX_NAMES, Names, Submission};
-use numbers::parse_number;
+use text::parse_number;
 use std::alloc::{AllocError, Global};
 
 /// An entry, and the node at which it is offered.

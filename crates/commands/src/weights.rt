@@ -3,7 +3,7 @@ ghost use Rattle.std.specs.Prelude.{◌≡◌, ◌≤◌, ◌<◌, ◌⊎◌, Ma
 ghost use Rattle.commands.specs.declared.weights.TheConstants.{MAX_WORKERS};
 
 use crate::pieces::split_first_piece;
-use numbers::parse_number;
+use text::parse_number;
 use synod::{MAX_NODES, Weights};
 
 /// The greatest count of workers.

@@ -22,7 +22,7 @@ pub use Rattle.library.specs.declared.entry.Entry.TheVariants.{Charter, Text}
 pub use Rattle.library.specs.declared.submission.Submission.{Submission}
 pub use Rattle.net.specs.declared.event.Event.{Event}
 pub use Rattle.net.specs.declared.event.Event.TheVariants.{Begin, Deliver, Offer, Restart}
-pub use Rattle.numbers.specs.Numbers.{number_from, number_of}
+pub use Rattle.text.specs.Numbers.{number_from, number_of}
 pub use Rattle.std.proofs.Common.{Ok, ap, append-nil, append_assoc, arith, div-add-mod', drop, get_or, leb, length, length-append, subst, sym, take, ◌∙◌}
 pub use Rattle.std.proofs.lemmas.Bool.{eq-eqb, le-leb, lt-ltb, ne_eqb}
 pub use Rattle.std.proofs.lemmas.Fmt.{decimal_by_steps, decimal_digit, decimal_nonempty}

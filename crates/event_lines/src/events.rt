@@ -9,7 +9,7 @@ ghost use Rattle.event_lines.specs.EventLines.{play_line_of_event, number_line};
 use crate::offers::push_offer;
 use commands::LINE_FEED;
 use net::Event;
-use numbers::push_number;
+use text::push_number;
 use std::alloc::{AllocError, Global};
 use world::Carried;
 

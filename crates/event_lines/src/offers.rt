@@ -7,7 +7,7 @@ ghost use Rattle.event_lines.specs.EventLines.{offer_bytes_line, offer_bytes_lin
 
 use commands::LINE_FEED;
 use library::{Entry, Submission};
-use numbers::push_number;
+use text::push_number;
 use std::alloc::AllocError;
 
 /// Appends the lines that offer an entry at a node.

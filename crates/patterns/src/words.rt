@@ -8,7 +8,7 @@ ghost use Rattle.patterns.specs.Parsing.{is_symbol_word, is_unknown_word};
 ghost use Rattle.patterns.specs.Segments.{part_view};
 
 use crate::part::Part;
-use runs::next_run;
+use text::next_run;
 use std::alloc::{AllocError, Global};
 
 /// A word of a text, and the offset after it.

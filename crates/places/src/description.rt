@@ -11,7 +11,7 @@ ghost use Rattle.places.specs.Walk.{CanSkip, SkipsRuns, state_after_run, descrip
 use crate::statement_tokens::ends_statement;
 use memchr::memchr;
 use mm_lex::Span;
-use runs::next_run;
+use text::next_run;
 use std::alloc::{AllocError, Global};
 
 /// The state of a walk over the runs of a text, between two runs.

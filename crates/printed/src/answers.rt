@@ -9,7 +9,7 @@ use crate::packets::push_spaced_entry;
 use crate::verdict_text::push_verdict;
 use library::{Entry, Library, Listed, Verdict};
 use mm_read::{Stmt, push_line};
-use numbers::push_number;
+use text::push_number;
 use std::alloc::AllocError;
 
 /// Appends a line `ok N`, where N packets were posted so far.

@@ -4,7 +4,7 @@ ghost use Rattle.std.specs.Prelude.{◌≡◌, ◌++◌, OnOk};
 ghost use Rattle.printed.specs.Counted.{counted_lines_text, carried_log_text, line_feeds_of};
 
 use crate::packets::push_spaced_value;
-use numbers::push_number;
+use text::push_number;
 use std::alloc::AllocError;
 use world::Carried;
 

@@ -10,7 +10,7 @@ use itoa::Buffer;
 use library::{Cause, Verdict};
 use mm_lex::LexFault;
 use mm_read::{ReadFault, Stmt, push_line_with_proof, read};
-use numbers::push_number;
+use text::push_number;
 use scope::Rule;
 use std::alloc::{AllocError, Global};
 

@@ -5,7 +5,7 @@ ghost use Rattle.printed.specs.Printed.{ballot_text, entry_text, report_text, pa
 ghost use Rattle.printed.specs.Printed.{proposal_text, body_text, packet_text};
 
 use library::Entry;
-use numbers::push_number;
+use text::push_number;
 use std::alloc::AllocError;
 use synod::{Ballot, Body, Packet, SlotReport};
 use world::Carried;

@@ -4,7 +4,7 @@ ghost use Rattle.printed.specs.States.{role_text, role_and_promise, count_text, 
 ghost use Rattle.printed.specs.States.{line_end_text, state_text};
 
 use crate::packets::push_ballot;
-use numbers::push_number;
+use text::push_number;
 use std::alloc::AllocError;
 use synod::{NodeState, Role};
 

@@ -7,7 +7,7 @@ ghost use Rattle.printed.specs.Trees.{label_line, tree_node_line, tree_lines};
 
 use mm_lex::Word;
 use mm_read::Stmt;
-use numbers::push_number;
+use text::push_number;
 use std::alloc::AllocError;
 use verify::Tree;
 

@@ -3,7 +3,7 @@ ghost use Rattle.std.specs.Prelude.{◌≡◌, ◌++◌, decimal, OnOk};
 ghost use Rattle.printed.specs.Printed.{cause_text, rule_text, verdict_text};
 
 use library::{Cause, Verdict};
-use numbers::push_number;
+use text::push_number;
 use scope::Rule;
 use std::alloc::AllocError;
 

@@ -15,7 +15,7 @@ use extract::extract;
 use library::Library;
 use mm_lex::Word;
 use mm_read::Stmt;
-use numbers::push_number;
+use text::push_number;
 use printed::{push_assertions, push_labels, push_tree};
 use std::alloc::{AllocError, Global};
 use std::io::Write;

@@ -7,7 +7,7 @@ use crate::streams::print;
 use commands::DatabaseQuestion;
 use library::Library;
 use mm_read::Stmt;
-use numbers::push_number;
+use text::push_number;
 use std::alloc::{AllocError, Global};
 use std::io::Write;
 use std::mem::forget;

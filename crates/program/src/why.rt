@@ -7,7 +7,7 @@ use commands::NodeEntryId;
 use explanation::{DatabaseFault, explain_after};
 use library::{Cause, Entry, Library, Verdict};
 use mm_read::{ReadFault, read};
-use numbers::push_number;
+use text::push_number;
 use places::{line_and_column, token_span};
 use printed::push_counted_lines;
 use std::alloc::{AllocError, Global};

@@ -1,6 +1,6 @@
 -- Re-exports of the definitions and lemmas with which this crate is proved.
-pub use Rattle.file_names.specs.FileNames.{file_name}
-pub use Rattle.markup.specs.Escapes.{html_text}
+pub use Rattle.text.specs.FileNames.{file_name}
+pub use Rattle.text.specs.Escapes.{html_text}
 pub use Rattle.mm_read.specs.declared.stmt.Stmt.TheVariants.{Open}
 pub use Rattle.proof_pages.specs.Indexes.{index_row}
 pub use Rattle.proof_pages.specs.Notations.{symbol_html}

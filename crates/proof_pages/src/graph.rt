@@ -5,7 +5,7 @@ ghost use Rattle.proof_pages.specs.Graphs.{quoted_symbol, quoted_expr, arrow_lin
 
 use crate::step_lines::{label_at, push_step_number};
 use frame::Frames;
-use markup::push_quoted;
+use text::push_quoted;
 use std::alloc::AllocError;
 use steps::ProofTable;
 

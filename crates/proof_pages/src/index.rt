@@ -6,7 +6,7 @@ ghost use Rattle.proof_pages.specs.Indexes.{row_start_with_kind, expr_cell, asse
 
 use crate::notation::push_page_link;
 use crate::writing::{WriteFault, write_buffered, write_if_full};
-use markup::push_html;
+use text::push_html;
 use mm_lex::Words;
 use mm_read::Stmt;
 use std::alloc::{AllocError, Global};

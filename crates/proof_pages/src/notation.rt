@@ -4,11 +4,11 @@ ghost use Rattle.verify.specs.Proves.{label_or_empty};
 ghost use Rattle.proof_pages.specs.Notations.{first_css_class_html, variable_html, coloured, symbol_html, expr_html, link_start, page_link, label_html, label_at_html};
 
 use crate::css_classes::CssClasses;
-use file_names::push_file_name;
+use text::push_file_name;
 use frame::{Frames, is_assertion};
-use markup::push_html;
+use text::push_html;
 use mm_read::Stmt;
-use numbers::push_number;
+use text::push_number;
 use std::alloc::AllocError;
 
 /// How a page shows the symbols and the labels of a database.

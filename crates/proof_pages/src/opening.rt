@@ -3,7 +3,7 @@ use crate::notation::{label_of, push_html_expr};
 use crate::page_values::PageValues;
 use crate::partition::expr_at;
 use crate::style::{PAGE_START, STYLE_SHEET};
-use markup::push_html;
+use text::push_html;
 use std::alloc::AllocError;
 
 /// Appends the head of a page, with its title and its style, and the start of the body: the title

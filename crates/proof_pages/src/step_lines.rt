@@ -6,7 +6,7 @@ ghost use Rattle.steps.specs.Rows.{no_row};
 ghost use Rattle.proof_pages.specs.StepLines.{number_text, comma_and_number, taken_text, symbol_text, expr_text, step_line};
 
 use frame::Frames;
-use numbers::push_number;
+use text::push_number;
 use std::alloc::AllocError;
 use steps::ProofTable;
 

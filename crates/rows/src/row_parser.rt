@@ -1,7 +1,7 @@
 //! Parses the rows of a file.
 use crate::row::{Ending, ExpectedStderr, Row, StreamMode, Truncation};
 use crate::row_texts::{RowLineFault, push_line, push_lines, word_of};
-use numbers::parse_number;
+use text::parse_number;
 use std::alloc::{AllocError, Global};
 
 /// Why the rows of a file are not parsed.

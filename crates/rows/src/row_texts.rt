@@ -1,5 +1,5 @@
 //! Texts of a row: literal bytes, and escapes that begin with a backslash.
-use numbers::{parse_number, push_number};
+use text::{parse_number, push_number};
 use std::alloc::{AllocError, Global};
 
 /// Why a line is not parsed.

@@ -1,12 +1,12 @@
 //! The labels of a picture, as XML text with `&`, `<`, `>` and `"` escaped.
 ghost use Rattle.std.specs.Prelude.{◌≡◌, IfOk};
-ghost use Rattle.markup.specs.Escapes.{html_text};
+ghost use Rattle.text.specs.Escapes.{html_text};
 
 use crate::step::Act;
 use library::Entry;
-use markup::push_html;
+use text::push_html;
 use net::Event;
-use numbers::push_number;
+use text::push_number;
 use printed::{push_packet, push_verdict};
 use std::alloc::{AllocError, Global};
 use synod::Packet;

@@ -6,7 +6,7 @@ use Rattle.mm_lex.specs.Alphabet.{Name}
 use Rattle.mm_read.specs.Statements.{Database}
 use Rattle.mm_read.specs.declared.stmt.Stmt.{Stmt}
 use Rattle.mm_read.specs.declared.stmt.Stmt.TheVariants.{Axiom, Prove}
-use Rattle.file_names.specs.FileNames.{file_name}
+use Rattle.text.specs.FileNames.{file_name}
 
 -- files with these names were written, one after another; `writes` relates the folder before and
 -- after one write

@@ -1,5 +1,5 @@
 //! Prints the progress of a site with many pages.
-use numbers::push_number;
+use text::push_number;
 use std::alloc::{AllocError, Global};
 use std::io::Write;
 

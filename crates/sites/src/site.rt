@@ -6,7 +6,7 @@ ghost use Rattle.sites.specs.SiteFiles.{WritesNamed, page_file_of_label, page_fi
 use crate::assertion_page::{PageSources, push_page};
 use crate::progress::print_progress;
 use cross_references::cross_references;
-use file_names::{INDEX_FILE, STYLE_FILE, push_file_name};
+use text::{INDEX_FILE, STYLE_FILE, push_file_name};
 use folders::{Folder, FolderFault};
 use library::{AskFault, Library};
 use mm_lex::Word;

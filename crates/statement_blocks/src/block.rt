@@ -9,7 +9,7 @@ use crate::frame_lines::push_frame;
 use crate::statement_line::push_statement;
 use crate::wrapping::push_wrapped;
 use frame::is_assertion;
-use numbers::push_number;
+use text::push_number;
 use places::LineAndColumn;
 use std::alloc::{AllocError, Global};
 

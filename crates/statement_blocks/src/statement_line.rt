@@ -4,7 +4,7 @@ ghost use Rattle.statement_blocks.specs.Lines.{three_joined, proof_note, stateme
 
 use mm_lex::Words;
 use mm_read::Stmt;
-use numbers::push_number;
+use text::push_number;
 use std::alloc::AllocError;
 
 /// Appends a statement without its proof as a line: its label, its keyword and its symbols,

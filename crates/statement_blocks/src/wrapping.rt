@@ -3,7 +3,7 @@ ghost use Rattle.std.specs.Prelude.{◌≡◌, ◌++◌, [], map, OnOk};
 ghost use Rattle.mm_lex.specs.Alphabet.{runs, word};
 ghost use Rattle.statement_blocks.specs.Wrapped.{fits, separator, column_after, wrapped, wrapped_from};
 
-use runs::next_run;
+use text::next_run;
 use std::alloc::AllocError;
 
 /// The maximum number of bytes in a line.

@@ -5,7 +5,7 @@ use crate::rendezvous::Rendezvous;
 use crate::text_entries::{entry, with_new_library};
 use bytes::Bytes;
 use library::{Cause, Entry, Library, Verdict};
-use numbers::push_number;
+use text::push_number;
 use std::alloc::{AllocError, Global};
 use std::test::Fail;
 use std::thread::Threads;

@@ -2,7 +2,7 @@
 //! write no items.
 use mm_lex::Words;
 use mm_read::{Stmt, read};
-use numbers::push_number;
+use text::push_number;
 use proof_code::{CodeFault, Items, is_compressed, normal, packed};
 use std::alloc::{AllocError, Global};
 

@@ -1,6 +1,6 @@
 //! The parts of a picture: lines, points and texts.
 use crate::grid::{GridPoint, STUMP_DEPTH, TOP_EDGE, column_x, stump_end};
-use numbers::push_number;
+use text::push_number;
 use std::alloc::AllocError;
 
 /// How far an arrow from a node to itself goes to the left.

@@ -5,7 +5,7 @@ use crate::parts::{
     push_stump, push_stump_numbers,
 };
 use crate::style::{END, HEAD, STYLE};
-use numbers::push_number;
+use text::push_number;
 use std::alloc::{AllocError, Global};
 
 /// The look of a point.

@@ -1,5 +1,0 @@
-use Rattle.file_names.proofs.ReadingLemmas.{names-stay}
-use Rattle.file_names.proofs.laws.names_stay_in_a_folder.Goals as goal
-
-pub returns : goal.returns
-returns c = names-stay

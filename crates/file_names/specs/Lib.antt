@@ -1,2 +1,0 @@
-pub mod FileNames
-pub mod Laws

@@ -1,0 +1,3 @@
+mod NumberLemmas
+pub mod EscapeLemmas
+pub mod ReadingLemmas

@@ -1,0 +1,4 @@
+pub mod Numbers
+pub mod Escapes
+pub mod FileNames
+pub mod Laws
