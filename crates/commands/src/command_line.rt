@@ -13,7 +13,7 @@ use clap::error::ErrorKind;
 use clap::{ArgMatches, Error};
 use finding::SearchQuery;
 use text::parse_number;
-use patterns::{Pattern, PatternFault, SearchWords};
+use finding::{Pattern, PatternFault, SearchWords};
 use std::alloc::{AllocError, Global};
 use synod::{MAX_NODES, Weights};
 

@@ -2,3 +2,9 @@ pub mod Words
 pub mod LineLemmas
 pub mod HypothesesLemmas
 mod Rows
+pub mod PatternPrelude
+pub mod WordsLemmas
+pub mod SegmentLemmas
+pub mod PatternLemmas
+pub mod HasWordLemmas
+mod PatternRows

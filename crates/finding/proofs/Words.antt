@@ -14,7 +14,7 @@ pub use Rattle.frame.specs.Stored.Hypotheses.{In}
 pub use Rattle.mm_read.specs.Statements.{Database}
 pub use Rattle.mm_read.specs.declared.stmt.Stmt.{Stmt}
 pub use Rattle.mm_read.specs.declared.stmt.Stmt.TheVariants.{Axiom, Ess, Open, Prove}
-pub use Rattle.patterns.specs.Matches.{Part}
+pub use Rattle.finding.specs.Matches.{Part}
 pub use Rattle.scope.proofs.StatementPlaces.{stmt_at-bares}
 pub use Rattle.scope.specs.Active.{active_from, bare, bares, before, is_active, is_assertion, is_essential, stays_open, stmt_at}
 pub use Rattle.std.proofs.Common.{Bool, List, None, Option, Some, [], ap, append_assoc, arith, codes, drop, false, filter, get_or, inl, inr, length, length-append, lt-ltb, map, nat_le, nat_lt, refl, slice_get, subst, suc, sym, take, take-append-drop, take-take, true, zero, ℕ, ◌&&◌, ◌++◌, ◌+◌, ◌-◌, ◌<◌, ◌∙◌, ◌∷◌, ◌≡◌, ◌≤◌}

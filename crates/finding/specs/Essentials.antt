@@ -8,7 +8,7 @@ use Rattle.mm_read.specs.Statements.{Database}
 use Rattle.mm_read.specs.declared.stmt.Stmt.{Stmt}
 use Rattle.scope.specs.Active.{bares, is_active}
 use Rattle.frame.specs.Citations.{IsHypothesis}
-use Rattle.patterns.specs.Matches.{Part}
+use Rattle.finding.specs.Matches.{Part}
 use Rattle.finding.specs.declared.query.SearchQuery.{SearchQuery}
 use Rattle.finding.specs.declared.query.SearchQuery.TheVariants.{WithHypotheses}
 use Rattle.finding.specs.Matching.{HasPattern, essential_at}

@@ -10,8 +10,8 @@ use Rattle.mm_read.specs.declared.stmt.Stmt.TheVariants.{Ess, Axiom, Prove}
 use Rattle.mm_read.specs.Statements.{Expr, Database}
 use Rattle.scope.specs.Active.{bares, before, stmt_at, is_assertion}
 use Rattle.frame.specs.FrameOf.{hypotheses}
-use Rattle.patterns.specs.Matches.{Part, Matches}
-use Rattle.patterns.specs.DescriptionWords.{HasWords}
+use Rattle.finding.specs.Matches.{Part, Matches}
+use Rattle.finding.specs.DescriptionWords.{HasWords}
 use Rattle.finding.specs.declared.query.SearchQuery.{SearchQuery}
 use Rattle.finding.specs.declared.query.SearchQuery.TheVariants.{Pattern, WithHypotheses, Words}
 

@@ -4,7 +4,7 @@ ghost use Rattle.finding.specs.Matching.{HasPattern, assertion_expr, essential_e
 
 use mm_lex::Words;
 use mm_read::Stmt;
-use patterns::Pattern;
+use crate::Pattern;
 use std::alloc::{AllocError, Global};
 
 /// Returns whether there is an expression and it has the pattern.

@@ -7,7 +7,7 @@ ghost use Rattle.finding.specs.Essentials.{AreMatchingEssentials, IsTrimmedLengt
 use crate::expressions::{essential_expr, has_pattern};
 use frame::{Frames, Meaning};
 use mm_read::Stmt;
-use patterns::Pattern;
+use crate::Pattern;
 use std::alloc::{AllocError, Global};
 
 /// Appends the position of a statement to those of the `$e` that have the pattern, if the statement

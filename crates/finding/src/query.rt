@@ -2,7 +2,7 @@
 use frame::Frames;
 use mm_lex::Span;
 use mm_read::Stmt;
-use patterns::{Pattern, SearchWords};
+use crate::{Pattern, SearchWords};
 
 /// A pattern or words, and the part of an assertion in which they are searched for.
 #[derive(Drop)]

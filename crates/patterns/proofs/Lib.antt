@@ -1,6 +1,0 @@
-pub mod Prelude
-pub mod WordsLemmas
-pub mod SegmentLemmas
-pub mod PatternLemmas
-pub mod HasWordLemmas
-mod Rows

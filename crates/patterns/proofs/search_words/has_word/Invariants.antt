@@ -1,6 +1,0 @@
-use Rattle.std.proofs.Common.{ℕ, ◌<◌}
-use Rattle.patterns.proofs.HasWordLemmas.{IsAlikeAt}
-use Rattle.patterns.proofs.search_words.has_word.Given as goal
-
-abbrev pub invariant-loop-index : goal.invariant-loop-index
-invariant-loop-index l = (k : ℕ) → k < l.index → IsAlikeAt l.text l.word k → ⊥
