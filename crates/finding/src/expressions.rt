@@ -2,9 +2,9 @@
 ghost use Rattle.std.specs.Prelude.{◌≡◌, ◌↔◌, IfOk, IsTrue, map, option_map};
 ghost use Rattle.finding.specs.Matching.{HasPattern, assertion_expr, essential_expr};
 
+use crate::Pattern;
 use mm_lex::Words;
 use mm_read::Stmt;
-use crate::Pattern;
 use std::alloc::{AllocError, Global};
 
 /// Returns whether there is an expression and it has the pattern.

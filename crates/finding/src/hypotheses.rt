@@ -4,10 +4,10 @@ ghost use Rattle.mm_read.specs.Statements.{Database};
 ghost use Rattle.scope.specs.Active.{stmt_at};
 ghost use Rattle.finding.specs.Essentials.{AreMatchingEssentials, IsTrimmedLength, IsActiveHypothesis};
 
+use crate::Pattern;
 use crate::expressions::{essential_expr, has_pattern};
 use frame::{Frames, Meaning};
 use mm_read::Stmt;
-use crate::Pattern;
 use std::alloc::{AllocError, Global};
 
 /// Appends the position of a statement to those of the `$e` that have the pattern, if the statement

@@ -1,8 +1,8 @@
 //! The pattern or words of a search, and the database that is searched.
+use crate::{Pattern, SearchWords};
 use frame::Frames;
 use mm_lex::Span;
 use mm_read::Stmt;
-use crate::{Pattern, SearchWords};
 
 /// A pattern or words, and the part of an assertion in which they are searched for.
 #[derive(Drop)]

@@ -8,8 +8,8 @@ ghost use Rattle.finding.specs.Parsing.{is_symbol_word, is_unknown_word};
 ghost use Rattle.finding.specs.Segments.{part_view};
 
 use crate::part::Part;
-use text::next_run;
 use std::alloc::{AllocError, Global};
+use text::next_run;
 
 /// A word of a text, and the offset after it.
 #[derive(Clone, Copy, Drop)]

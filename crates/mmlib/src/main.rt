@@ -2,7 +2,7 @@
 //! streams to the crate `program`, which does the rest.
 #![tactic(auto)]
 
-use folders::SystemFolder;
+use sites::SystemFolder;
 use program::{Fault, print, run};
 use std::alloc::{AllocError, Global};
 use std::process::ExitCode;

@@ -7,7 +7,7 @@ use crate::play_picture::print_picture;
 use crate::serve::serve;
 use crate::streams::print;
 use commands::{CommandLineFault, Request, VERSION, parse_command_line};
-use folders::Folder;
+use sites::Folder;
 use std::alloc::AllocError;
 use std::io::{Read, Write};
 use std::sync::Wait;

@@ -8,7 +8,7 @@ use crate::streams::{print, read_text};
 use crate::unproved_proofs::read_legal_database;
 use bytes::Bytes;
 use commands::SiteRequest;
-use folders::Folder;
+use sites::Folder;
 use library::{Cause, Library, Verdict};
 use sites::{SiteFault, SiteSources, write_site};
 use std::alloc::{AllocError, Global};

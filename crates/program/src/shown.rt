@@ -6,7 +6,7 @@ use library::{AskFault, Library};
 use memchr::memchr_iter;
 use mm_lex::{Span, tokens};
 use places::{LineAndColumn, descriptions, line_and_column};
-use statement_blocks::{BlockInput, push_block};
+use proof_pages::{BlockInput, push_block};
 use std::alloc::{AllocError, Global};
 
 /// A text, and the ends of its statements.

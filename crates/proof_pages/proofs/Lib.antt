@@ -1,3 +1,7 @@
 pub mod Words
 pub mod AppendLemmas
 pub mod WritingLemmas
+pub mod BlockWords
+pub mod WrappedLemmas
+pub mod FrameLemmas
+mod BlockRows

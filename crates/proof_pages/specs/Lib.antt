@@ -5,3 +5,7 @@ pub mod Notations
 pub mod TableRows
 pub mod Indexes
 pub mod Writing
+pub mod Lines
+pub mod Wrapped
+pub mod Blocks
+pub mod BlockInputs

@@ -5,9 +5,9 @@ ghost use Rattle.proof_pages.specs.Graphs.{quoted_symbol, quoted_expr, arrow_lin
 
 use crate::step_lines::{label_at, push_step_number};
 use frame::Frames;
-use text::push_quoted;
 use std::alloc::AllocError;
 use steps::ProofTable;
+use text::push_quoted;
 
 /// Appends the first line of the graph of a theorem.
 pub fn push_graph_header(text: &mut Vec<u8>, label: &[u8]) -> Result<(), AllocError>

@@ -6,11 +6,11 @@ ghost use Rattle.proof_pages.specs.Indexes.{row_start_with_kind, expr_cell, asse
 
 use crate::notation::push_page_link;
 use crate::writing::{WriteFault, write_buffered, write_if_full};
-use text::push_html;
 use mm_lex::Words;
 use mm_read::Stmt;
 use std::alloc::{AllocError, Global};
 use std::io::Write;
+use text::push_html;
 
 /// The start of the index, before its rows. Its title says "statements"; the rows are those of the
 /// assertions.

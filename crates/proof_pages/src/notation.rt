@@ -4,12 +4,10 @@ ghost use Rattle.verify.specs.Proves.{label_or_empty};
 ghost use Rattle.proof_pages.specs.Notations.{first_css_class_html, variable_html, coloured, symbol_html, expr_html, link_start, page_link, label_html, label_at_html};
 
 use crate::css_classes::CssClasses;
-use text::push_file_name;
 use frame::{Frames, is_assertion};
-use text::push_html;
 use mm_read::Stmt;
-use text::push_number;
 use std::alloc::AllocError;
+use text::{push_file_name, push_html, push_number};
 
 /// How a page shows the symbols and the labels of a database.
 #[derive(Drop)]

@@ -3,8 +3,8 @@ use crate::notation::{label_of, push_html_expr};
 use crate::page_values::PageValues;
 use crate::partition::expr_at;
 use crate::style::{PAGE_START, STYLE_SHEET};
-use text::push_html;
 use std::alloc::AllocError;
+use text::push_html;
 
 /// Appends the head of a page, with its title and its style, and the start of the body: the title
 /// as a heading.

@@ -6,9 +6,9 @@ ghost use Rattle.steps.specs.Rows.{no_row};
 ghost use Rattle.proof_pages.specs.StepLines.{number_text, comma_and_number, taken_text, symbol_text, expr_text, step_line};
 
 use frame::Frames;
-use text::push_number;
 use std::alloc::AllocError;
 use steps::ProofTable;
+use text::push_number;
 
 /// Returns the label of the statement at a position, empty if it has none.
 pub fn label_at(frames: &Frames, position: usize) -> &[u8]

@@ -3,7 +3,7 @@ use crate::expected_output::{ExpectedOutput, PrintedOutput, compare, default_sta
 use crate::failing_streams::{FailingReader, FailingWriter};
 use crate::limited_folder::LimitedFolder;
 use crate::row::{Ending, ExpectedStderr, Row, StreamMode, Truncation};
-use folders::MemoryFolder;
+use sites::MemoryFolder;
 use program::run;
 use std::alloc::{AllocError, Global};
 use std::fmt::Display;

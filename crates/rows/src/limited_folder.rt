@@ -1,5 +1,5 @@
 //! A folder that refuses calls after some number of them.
-use folders::{Folder, FolderFault, MemoryFolder};
+use sites::{Folder, FolderFault, MemoryFolder};
 use std::alloc::Global;
 
 /// A folder in memory that answers a number of calls and refuses all later ones.

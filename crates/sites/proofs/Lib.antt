@@ -1,2 +1,6 @@
 pub mod Words
 pub mod SiteLemmas
+pub mod ReferenceWords
+pub mod ListLemmas
+pub mod CitationLemmas
+pub mod PassLemmas

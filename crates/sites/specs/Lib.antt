@@ -1,1 +1,4 @@
 pub mod SiteFiles
+pub mod References
+pub mod PassState
+pub mod Written

@@ -4,8 +4,8 @@ ghost use Rattle.frame.specs.FrameOf.{HasAssertion};
 ghost use Rattle.mm_read.specs.declared.stmt.Stmt.{Stmt as Statement};
 ghost use Rattle.scope.specs.Active.{bares};
 
+use crate::CrossReferences;
 use crate::site::{SiteFault, SiteSources};
-use cross_references::CrossReferences;
 use mm_lex::Span;
 use mm_read::Stmt;
 use proof_pages::{PageContents, ProofSteps, RelatedItems, write_site_page};

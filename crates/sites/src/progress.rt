@@ -1,7 +1,7 @@
 //! Prints the progress of a site with many pages.
-use text::push_number;
 use std::alloc::{AllocError, Global};
 use std::io::Write;
+use text::push_number;
 
 /// The least number of pages for which progress is printed.
 const MIN_PAGES_FOR_PROGRESS: u64 = 5_000;

@@ -5,9 +5,7 @@ ghost use Rattle.sites.specs.SiteFiles.{WritesNamed, page_file_of_label, page_fi
 
 use crate::assertion_page::{PageSources, push_page};
 use crate::progress::print_progress;
-use cross_references::cross_references;
-use text::{INDEX_FILE, STYLE_FILE, push_file_name};
-use folders::{Folder, FolderFault};
+use crate::{Folder, FolderFault, cross_references};
 use library::{AskFault, Library};
 use mm_lex::Word;
 use mm_read::Stmt;
@@ -16,6 +14,7 @@ use proof_pages::{WriteFault, style_sheet, write_index};
 use std::alloc::{AllocError, Global};
 use std::io::Write;
 use std::str::from_utf8;
+use text::{INDEX_FILE, STYLE_FILE, push_file_name};
 
 /// The sources of a site: a library, and the text that it was read from.
 #[derive(Drop)]

@@ -1,4 +1,0 @@
-pub mod Words
-pub mod ListLemmas
-pub mod CitationLemmas
-pub mod PassLemmas

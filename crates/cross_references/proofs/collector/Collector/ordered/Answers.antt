@@ -1,6 +1,0 @@
-use Rattle.cross_references.proofs.Words.{List, ℕ, ◌∙◌, subst, In, ListsExactly}
-use Rattle.cross_references.proofs.collector.Collector.ordered.Goals as goal
-
-pub returns : goal.returns
-returns c =
-    subst (λ (l : List ℕ). ListsExactly (λ p. In p l) c.sort_dedup.new.list.items) (c.in_ok-list.ensures.items ∙ (c.as_slice.ensures.value ∙ c.self.view_is)) c.sort_dedup.ensures

@@ -1,4 +1,0 @@
-pub mod Words
-pub mod WrappedLemmas
-pub mod FrameLemmas
-mod Rows

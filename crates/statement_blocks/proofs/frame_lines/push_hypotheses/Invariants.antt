@@ -1,5 +1,0 @@
-use Rattle.statement_blocks.proofs.Words.{◌≡◌, ◌++◌, take, flat_map, line_at}
-use Rattle.statement_blocks.proofs.frame_lines.push_hypotheses.Given as goal
-
-abbrev pub invariant-loop-position : goal.invariant-loop-position
-invariant-loop-position l = l.text.items ≡ l.initial.text.items ++ flat_map (line_at l.statements) (take l.position-index l.positions)

@@ -1,4 +1,0 @@
-pub mod Lines
-pub mod Wrapped
-pub mod Blocks
-pub mod BlockInputs
