@@ -45,9 +45,5 @@ pub mod LabelLemmas
 pub mod PositionLemmas
 pub mod LongExpressionLemmas
 mod LongEssentialLemmas
-pub mod PairSearchLemmas
-pub mod PairFactLemmas
-pub mod CitingListLemmas
-pub mod KeptFactLemmas
 pub mod ShrunkStorage
 mod Rows

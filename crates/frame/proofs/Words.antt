@@ -46,7 +46,6 @@ pub use Rattle.frame.specs.Stored.LongExpressions.{AreLongIn, IsLongIn}
 pub use Rattle.frame.specs.Stored.Merged.{AreMerged, AreMissing, with_each}
 pub use Rattle.frame.specs.Stored.Naming.{is_kind_of_symbol, naming_from, naming_of}
 pub use Rattle.frame.specs.Stored.OneFrame.{AreMandatory, among, is_needed, groups_among, is_in_essential, mandatory_positions}
-pub use Rattle.frame.specs.Stored.PairSearch.{AreSearched, AreRemaining, are_pair}
 pub use Rattle.frame.specs.Stored.Stacks.{AreChangedBy, AreOfKind, AreStacks, IsNext, IsOfKind, KeepsUntil, codes_by, entries_by, has_code, positions_with, having_after, kind_test, last_by_kind, latest_of, long_codes, long_entry, opening, with_top}
 pub use Rattle.frame.specs.Stored.Whole.{AreKept, ArePartsFor, AreStored, IsEntryHeader, IsKeptOf, AreStacksOfStorage}
 pub use Rattle.frame.specs.declared.essential_sets.EssentialSets.{EssentialSets}

@@ -11,7 +11,6 @@ pub mod ExprPlaces
 pub mod LongEssentials
 pub mod WellTyped
 pub mod AtPosition
-pub mod PairFacts
 pub mod LastActive
 pub mod Laws
 pub mod Stored

@@ -14,8 +14,5 @@ pub mod KeptSets
 pub mod Stacks
 pub mod LongExpressions
 pub mod Whole
-pub mod PairSearch
-pub mod PairLists
 pub mod EssentialSets
-pub mod KeptFacts
 pub mod Merged

@@ -295,12 +295,10 @@ impl Frames {
         accepted.map_err(|_| Rule::Memory)
     }
 
-    /// Truncates to the first `len` statements. If the kept facts on pairs of variables are about
-    /// more statements than these, all of them are discarded.
+    /// Truncates to the first `len` statements.
     ///
     /// Cannot fail. Frees the capacity only of stacks of which little is left; `shrink` frees the
-    /// rest. Cost: the size of the statements that are removed, and the number of facts that are
-    /// discarded.
+    /// rest. Cost: the size of the statements that are removed.
     pub fn shorten(&mut self, len: usize)
         ensures statements { self.new.statements ≡ take len self.old.statements }
         ensures names { Extends self.new.names self.old.names }
@@ -308,7 +306,6 @@ impl Frames {
     {
         truncate_storage(&mut self.storage, len);
         self.essential_sets.truncate(len);
-        self.kept_facts.truncate(len);
     }
 
     /// Frees unused capacity: that of each list whose capacity is more than four times its length,

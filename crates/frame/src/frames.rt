@@ -1,16 +1,13 @@
 //! The statements of a database by position.
 ghost use Rattle.std.specs.Prelude.{◌≡◌, ◌≤◌, ◌<◌, [], true, IfOk, length, Some, option_map, OnOk, IfSome};
-ghost use Rattle.{mm_read.specs.declared.stmt.Stmt.Stmt as Statement, names.specs.Codes.name_at, names.specs.Codes.decode, scope.specs.Active.before, scope.specs.Active.stmt_at, scope.specs.Active.label_of, scope.specs.Active.expr_of, frame.specs.AtPosition.IsPosition, frame.specs.AtPosition.ArePositions, frame.specs.AtPosition.HasLegalProperties, frame.specs.AtPosition.IsMeaning, frame.specs.FrameOf.HasAssertion, frame.specs.FrameOf.hypotheses, frame.specs.AssertionView.AreBuffersOf, frame.specs.AssertionView.AreCitingLists, frame.specs.AssertionView.IsCitingView, frame.specs.AssertionView.IsViewOf, frame.specs.PairFacts.AreFacts, frame.specs.ExprPlaces.AreExprPlaces, frame.specs.Below.AreBelow, frame.specs.LongEssentials.HasConstantsAt, frame.specs.LongEssentials.long_essentials, scope.specs.Active.is_essential};
+ghost use Rattle.{mm_read.specs.declared.stmt.Stmt.Stmt as Statement, names.specs.Codes.name_at, names.specs.Codes.decode, scope.specs.Active.before, scope.specs.Active.stmt_at, scope.specs.Active.label_of, scope.specs.Active.expr_of, frame.specs.AtPosition.IsPosition, frame.specs.AtPosition.ArePositions, frame.specs.AtPosition.HasLegalProperties, frame.specs.AtPosition.IsMeaning, frame.specs.FrameOf.HasAssertion, frame.specs.FrameOf.hypotheses, frame.specs.AssertionView.AreBuffersOf, frame.specs.AssertionView.IsViewOf, frame.specs.ExprPlaces.AreExprPlaces, frame.specs.Below.AreBelow, frame.specs.LongEssentials.HasConstantsAt, frame.specs.LongEssentials.long_essentials, scope.specs.Active.is_essential};
 
 use crate::assertion_parts::fill_from_hypotheses;
 use crate::at_position::{is_active_at, last_active_at};
-use crate::citing_lists::fill_citing_lists;
 use crate::essential_sets::EssentialSets;
 use crate::frame_buffers::FrameBuffers;
-use crate::kept_facts::KeptFacts;
 use crate::mandatory_view::{MandatoryView, missing};
 use crate::meaning::Meaning;
-use crate::pair_facts::PairFacts;
 use crate::pairs::Pairs;
 use crate::shape::has_label;
 use crate::storage::Storage;
@@ -41,8 +38,6 @@ pub struct Frames {
     /// For a `$e`, the set of the mandatory hypotheses that the active `$e` up to it bring along,
     /// if they are many.
     pub(crate) essential_sets: EssentialSets,
-    /// Facts about pairs of variables, which stay true as statements are added.
-    pub(crate) kept_facts: KeptFacts,
     /// Buffers for the parts of the next assertion.
     pub(crate) buffers: FrameBuffers,
     /// A buffer for the numbers of the symbols of the next statement.
@@ -50,13 +45,13 @@ pub struct Frames {
 }
 
 impl Model for Frames {
-    ghost use Rattle.{frame.specs.Parts.Numbered, frame.specs.Stored.EntryMeanings.numbered, frame.specs.Stored.KeptFacts.AreFramesAndFacts};
+    ghost use Rattle.{frame.specs.Parts.Numbered, frame.specs.Stored.EntryMeanings.numbered, frame.specs.Stored.EssentialSets.AreFrames};
 
     ghost Value = { Numbered };
 
     ghost view = { λ a. numbered a.storage };
 
-    ghost invariant = { λ a. AreFramesAndFacts a.storage a.essential_sets a.kept_facts };
+    ghost invariant = { λ a. AreFrames a.storage a.essential_sets };
 }
 
 impl Frames {
@@ -85,7 +80,6 @@ impl Frames {
                 },
             },
             essential_sets: EssentialSets::new(alloc),
-            kept_facts: KeptFacts::new(alloc),
             buffers: FrameBuffers::new(alloc),
             recorded: SymbolNumbers::new(alloc),
         }
@@ -213,7 +207,6 @@ impl Frames {
     {
         Pairs {
             storage: &self.storage,
-            facts: &self.kept_facts.facts,
             at,
         }
     }
@@ -260,54 +253,6 @@ impl Frames {
             hypotheses: Hypotheses::new(&frame_buffers.numbered_hypotheses),
             conclusion: self.expr(a),
             groups: Groups::new(&frame_buffers.groups, &frame_buffers.grouped_variables),
-        }
-    }
-
-    /// Fills the buffers with lists by which the assertion at a position can be cited. Its disjoint
-    /// variables are searched for pair by pair if that costs less than going through the active
-    /// `$d`.
-    ///
-    /// Errors: an allocation fails. Cost: the size of its hypotheses, which are sorted, and a
-    /// constant times the cheaper of two ways. By `$d`: the symbols of the active `$d`. By pairs:
-    /// for each pair of its variables about 64 `$d`, and the `$d` that no recorded search for this
-    /// pair has passed. Searches are recorded in `facts` and in the frames.
-    pub fn fill_for_citing(
-        &self,
-        a: usize,
-        facts: &mut PairFacts,
-        buffers: &mut FrameBuffers,
-    ) -> Result<(), AllocError>
-        requires assertion { (s : Statement) × HasAssertion self.now.statements a s }
-        requires facts { AreFacts self.now facts.old }
-        ensures facts { AreFacts self.now facts.new }
-        ensures lists { OnOk result (AreCitingLists self.now.statements self.now.names a buffers.new) }
-    {
-        buffers.clear();
-        self.mandatory(a, &mut buffers.hypotheses)?;
-        fill_citing_lists(
-            self.alloc,
-            &self.storage,
-            &self.kept_facts.facts,
-            a,
-            facts,
-            buffers,
-        )
-    }
-
-    /// Returns the parts by which the assertion at a position can be cited, from the buffers that
-    /// `fill_for_citing` filled for it.
-    ///
-    /// Cost: a constant.
-    pub fn citing_view<'a>(&'a self, a: usize, buffers: &'a FrameBuffers) -> AssertionView<'a>
-        requires assertion { (s : Statement) × HasAssertion self.now.statements a s }
-        requires lists { AreCitingLists self.now.statements self.now.names a buffers.now }
-        ensures { (s : Statement) → stmt_at self.now.statements a ≡ Some s → IsCitingView self.now.statements self.now.names a s result }
-    {
-        AssertionView {
-            typecodes: &buffers.typecodes,
-            hypotheses: Hypotheses::new(&buffers.numbered_hypotheses),
-            conclusion: self.expr(a),
-            groups: Groups::new(&buffers.groups, &buffers.grouped_variables),
         }
     }
 

@@ -13,5 +13,4 @@ invariant_of-result c = record {
     essentials = rw (c.new-9.ensures, c.new-6.ensures) (stacks-none is_essential);
   };
   sets = rw c.new-6.ensures c.new-10.ensures;
-  facts = c.new-11.ensures _;
 }
