@@ -1,5 +1,5 @@
 -- Walking over the active statements of a kind, from the last one back.
-use Rattle.frame.proofs.Words.{list_any, sym, ◌∙◌, ap, arith, true≢false, ◌≡◌, ℕ, zero, suc, ◌-◌, ◌<◌, ◌≤◌, Bool, true, false, cond, ◌||◌, ◌==◌, nat_eq, List, [], ◌∷◌, ◌++◌, length, take, filter, slice_get, Some, refl, or-false, length-map, list_any-append, or_right, false_from_ne_true, same_Some, has-at, name_same, same_name, Name, name_eq, has_name, Stmt, Database, active, disjoint_names, variables, is_essential, name_at, decode, AreDistinct, AreBelow, actives, last_position, last_active_of_kind, last_active_of, is_var, is_disj, Kind, Var, Disj, Entry, LastActive, Storage, stmt_by, stmt_of, names_in, labels_in, statements_of, AreStored}
+use Rattle.frame.proofs.Words.{list_any, sym, ◌∙◌, ap, arith, true≢false, ◌≡◌, ℕ, zero, suc, ◌-◌, ◌<◌, ◌≤◌, Bool, true, false, cond, ◌||◌, ◌==◌, nat_eq, List, [], ◌∷◌, ◌++◌, length, take, filter, slice_get, Some, refl, length-map, false_from_ne_true, same_Some, has-at, name_same, same_name, Name, name_eq, has_name, Stmt, Database, active, disjoint_names, variables, is_essential, name_at, decode, AreDistinct, AreBelow, actives, last_position, last_active_of_kind, last_active_of, is_var, is_disj, Kind, Var, Disj, Entry, LastActive, Storage, stmt_by, stmt_of, names_in, labels_in, statements_of, AreStored}
 use Rattle.std.specs.Cmp.{both_ways}
 use Rattle.frame.proofs.FoundByNumber.{name_at-injective}
 use Rattle.mm_read.specs.declared.stmt.Stmt.TheVariants as stmt

@@ -6,9 +6,8 @@ pub mod Substitution
 pub mod Disjoint
 pub mod Citations
 pub mod Below
+pub mod Ascending
 pub mod AssertionView
-pub mod ExprPlaces
-pub mod LongEssentials
 pub mod WellTyped
 pub mod AtPosition
 pub mod LastActive

@@ -9,10 +9,5 @@ pub mod Labels
 pub mod OneFrame
 pub mod Naming
 pub mod Ends
-pub mod Sparse
-pub mod KeptSets
 pub mod Stacks
-pub mod LongExpressions
 pub mod Whole
-pub mod EssentialSets
-pub mod Merged
