@@ -152,13 +152,6 @@ log-end log c hs are = record {
         let no : nat_eq s.last.number d ≡ false = let f = s.last_is in grind (arith, e, f) in
         sinces d ∙ (ap (λ b. sinces_of d s.front ++ cond b (s.last.since ∷ []) []) no ∙ append-nil _)
 
-pub log-empty : (hs : List (List StackVersion)) → AreLogged [] hs → (d : ℕ) → history hs d ≡ []
-log-empty hs are d = none (λ v. v.since) (history hs d) (are.each d ∙ ap (sinces_of d) (none (λ y. y.number) are.changes (sym are.listed)))
-  where
-    none : {A B : Type 0} (f : A → B) (xs : List A) → map f xs ≡ [] → xs ≡ []
-    none f [] e = refl
-    none f (x ∷ xs) e = cc
-
 -- ---- the versions made up to a position
 
 pub until-kept : (last : ℕ) (vs : List StackVersion) → IsUntil last vs → kept_until last vs ≡ vs

@@ -348,9 +348,6 @@ changed-more vs us at stack v more same since is =
     ∙ (let e : version_of (versions_of vs) v ≡ record { since = at; stack = stack } = cc in ap (λ x. versions_of vs ++ x ∷ []) e
     ∙ sym (ap (λ b. cond b (versions_of vs) (versions_of vs ++ record { since = at; stack = stack } ∷ [])) same)))
 
-pub changed-already : (vs : List StackVersion) (at : ℕ) (stack : List ℕ) → changed_at at vs ≡ true → vs ≡ with_version at stack vs
-changed-already vs at stack e = sym (ap (λ b. cond b vs (vs ++ record { since = at; stack = stack } ∷ [])) e)
-
 -- w was made when the last version v was, and the versions before it are `front`
 pub record IsPopped (vs : List Version) (front : List StackVersion) (v : StackVersion) (w : Version) : Type 0 where
   pub since_is : w.since ≡ v.since

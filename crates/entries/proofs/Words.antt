@@ -2,13 +2,9 @@
 -- re-exported from one place.
 pub use Rattle.entries.specs.Entries.{AreShapedParts, Entry, assertion_of, entry_by}
 pub use Rattle.entries.specs.Histories.{AreSame, AreUntil, AreWith, IsUntil, StackVersion, with_version, reverted, history, changed_at, kept_until, pushed, stack_at, stack_from}
-pub use Rattle.entries.specs.PositionSets.{AreAbove, Ascends, IsSet, count_below, has_position, set_at, with_position}
-pub use Rattle.entries.specs.Stored.Keys.{AreKeys, AreKeysOf, AreRuns, IsRun, index_of, key_of, symbol_at, symbol_of}
-pub use Rattle.entries.specs.Stored.PositionSets.{AreNodes, AreSets, IsNode, IsNodeOf, joined, set_of, sets_from, sets_of}
 pub use Rattle.entries.specs.Stored.Records.{AreKept, ArePacked, Body, IsKept, IsOrdered, IsStored, bodies_of, body_of, counts_of, end_by, groups_by, has_parts, layout_in, record_by, numbers_by, numbers_of, spans_by, with_state_before, with_states_before}
 pub use Rattle.entries.specs.Stored.Spans.{AreSpansIn, Extends, cut}
 pub use Rattle.entries.specs.Stored.Versions.{AreLogged, AreVersions, Change, IsBefore, IsLinked, IsNext, IsReadable, IsUpToTop, last_stack, no_version, sinces_of, stack_after, stack_of, version_of, versions_after, versions_of}
-pub use Rattle.entries.specs.SymbolPlaces.{AreGroupsFrom, ArePlacesOf, IsGroupOf, IsGrouped, SymbolGroups}
 pub use Rattle.entries.specs.declared.buffer_part.BufferPart.{BufferPart}
 pub use Rattle.entries.specs.declared.entry_header.StateBefore.{StateBefore}
 pub use Rattle.entries.specs.declared.history.TheConstants.{RESTORED}
@@ -16,25 +12,14 @@ pub use Rattle.entries.specs.declared.history.Version.{Version}
 pub use Rattle.entries.specs.declared.kind.Kind.{Kind}
 pub use Rattle.entries.specs.declared.layout.Layout.{Layout}
 pub use Rattle.entries.specs.declared.parts.AssertionParts.{AssertionParts}
-pub use Rattle.entries.specs.declared.position_sets.Node.{Node}
 pub use Rattle.entries.specs.declared.statement_record.StatementRecord.{StatementRecord}
-pub use Rattle.entries.specs.declared.symbol_places.TheConstants.{INDEXES}
-pub use Rattle.std.proofs.Common.{Bor, Contains, IsPermutation, IsSorted, Some, SomeIff, add-one, ap, append-nil, append_assoc, arith, cond, eqb, get_or, inl, inr, le-leb, length, ltb, map, max, nat_cmp, nat_eq, nat_le, nat_lt, refl, rules, slice_get, slice_index, slice_set, subst, sym, take, ⊎_elim, ◌+◌, ◌/◌, ◌==◌, ◌||◌, ◌∙◌}
-pub use Rattle.std.proofs.Math.ListN.{get_or-append}
-pub use Rattle.std.proofs.Math.Nat.{eq-or-lt_of_le, eq-zero-or-pos}
+pub use Rattle.std.proofs.Common.{Bor, Some, ap, append-nil, append_assoc, arith, cond, get_or, inl, inr, le-leb, length, ltb, map, nat_eq, nat_le, nat_lt, refl, rules, slice_get, slice_set, subst, sym, take, ◌+◌, ◌∙◌}
 pub use Rattle.std.proofs.Math.Seq.{drop-append_seam, get_or-append_seam, take-append_seam, take-length, take_all}
-pub use Rattle.std.proofs.lemmas.Bool.{cases_eq, cases_lt, cond_both, eq-eqb, le-ltb, leb-false, lt-leb, lt-ltb, ltb-false, ltb-true, ne_eqb}
-pub use Rattle.std.proofs.lemmas.Bool.Decides.{nat_tests}
-pub use Rattle.std.proofs.lemmas.Grind.{common_steps, get_or-set_at}
-pub use Rattle.std.proofs.lemmas.List.{drop-append-le, drop_more, get_or-drop, get_or-map, get_or-set_other, get_or-take, get_or_append_left, get_or_at, get_or_default, get_or_past, get_or_read, length-append, length-drop, length-map, length-take, length-take-le, length_push, map-append, nil_from_length, reverse-append, take-append-drop, take-append-le, take-map, take-take, take_at, take_more, take_rest}
-pub use Rattle.std.proofs.lemmas.List.Elements.{All-tail, Contains-get_or, filter-append}
-pub use Rattle.std.proofs.lemmas.List.Filters.{dedup_is}
-pub use Rattle.std.proofs.lemmas.List.Kept.{AllPairs-from_increasing, Contains-dedup_nat, Contains-from_dedup}
-pub use Rattle.std.proofs.lemmas.List.Sorted.{Contains-permutation, IsNonDecreasingBy-push, IsNonDecreasingBy-take, IsPartitionPoint-from_clause, IsPartitionedBy-ltb, IsPermutation-sym, searched}
-pub use Rattle.std.proofs.lemmas.Map.Keys.{IsStrictlyIncreasing-dedup}
-pub use Rattle.std.proofs.lemmas.Nat.{div-mul-add, mod-mul-add}
-pub use Rattle.std.proofs.lemmas.Option.{get_or_from_slice_get, same_Some, slice_get-get_or, slice_get-map, slice_get_cases, slice_get_within}
-pub use Rattle.std.specs.List.{All, dedup, filter, zip}
-pub use Rattle.std.specs.List.Sorted.{IsBinarySearchResult, IsNonDecreasingBy, IsPartitionPoint, IsStrictlyIncreasing}
-pub use Rattle.std.specs.Map.{lookup}
-pub use Rattle.std.specs.Prelude.{Bool, Err, IfOk, List, None, Ok, OnErr, OnOk, Option, Result, [], drop, false, is_err, min, option_map, reverse, slice_range, suc, true, zero, ℕ, ◌++◌, ◌-◌, ◌<◌, ◌^◌, ◌∷◌, ◌≡◌, ◌≤◌, ◌⊎◌}
+pub use Rattle.std.proofs.lemmas.Bool.{cases_lt, le-ltb, leb-false, lt-leb, lt-ltb, ltb-false, ltb-true}
+pub use Rattle.std.proofs.lemmas.Grind.{get_or-set_at}
+pub use Rattle.std.proofs.lemmas.List.{drop-append-le, drop_more, get_or-set_other, get_or-take, get_or_append_left, get_or_read, length-append, length-drop, length-map, length-take, length-take-le, map-append, nil_from_length, reverse-append, take-append-drop, take-append-le, take-take, take_more}
+pub use Rattle.std.proofs.lemmas.List.Elements.{filter-append}
+pub use Rattle.std.proofs.lemmas.List.Sorted.{IsNonDecreasingBy-push, IsNonDecreasingBy-take, IsPartitionPoint-from_clause, IsPartitionedBy-ltb}
+pub use Rattle.std.proofs.lemmas.Option.{get_or_from_slice_get, same_Some, slice_get-get_or, slice_get-map, slice_get_within}
+pub use Rattle.std.specs.List.Sorted.{IsNonDecreasingBy, IsPartitionPoint}
+pub use Rattle.std.specs.Prelude.{Bool, Err, List, None, Ok, OnErr, OnOk, Option, Result, [], drop, false, is_err, min, option_map, reverse, slice_range, suc, true, zero, ℕ, ◌++◌, ◌-◌, ◌<◌, ◌^◌, ◌∷◌, ◌≡◌, ◌≤◌, ◌⊎◌}

@@ -1,7 +1,5 @@
--- How statements, stacks, sets and the places of symbols are stored. Public clauses cite only
--- `Extends`, `AreSpansIn` and `cut`.
+-- How statements and stacks are stored. Public clauses cite only `Extends`, `AreSpansIn` and
+-- `cut`.
 pub mod Spans
 pub mod Records
 pub mod Versions
-pub mod PositionSets
-pub mod Keys

@@ -2,12 +2,11 @@
 //!
 //! Contracts see `Entries` as a list of statements, each with its parts as plain lists; inside, a
 //! few buffers hold the parts of all. The crate `frame` says which names the numbers denote.
-//! `Histories` and `PositionSets` store lists of positions of statements so that earlier ones can
-//! still be read.
+//! `Histories` stores lists of positions of statements so that earlier ones can still be read.
 //!
 //! Reading order: `kind`, `last_active`, `entry_header`, `buffer_part`, `groups`, `assertion_view`,
-//! `parts`; `layout`, `statement_record`, `entries`; `symbol_places`, `long_expressions`;
-//! `history`, `position_stack`, `histories`, `position_sets`; `room`.
+//! `parts`; `layout`, `statement_record`, `entries`; `history`, `position_stack`, `histories`;
+//! `room`.
 #![tactic(auto)]
 
 mod assertion_view;
@@ -20,13 +19,10 @@ mod history;
 mod kind;
 mod last_active;
 mod layout;
-mod long_expressions;
 mod parts;
-mod position_sets;
 mod position_stack;
 mod room;
 mod statement_record;
-mod symbol_places;
 
 pub use assertion_view::{AssertionView, Hypotheses, Hypothesis, NO_TYPECODE, number_of};
 pub use buffer_part::BufferPart;
@@ -36,9 +32,6 @@ pub use groups::Groups;
 pub use histories::Histories;
 pub use kind::Kind;
 pub use last_active::LastActive;
-pub use long_expressions::LongExpressions;
 pub use parts::AssertionParts;
-pub use position_sets::PositionSets;
 pub use position_stack::PositionStack;
 pub use room::give_back;
-pub use symbol_places::SymbolPlaces;

@@ -38,13 +38,6 @@ last-is test found at (e ∷ es) = by (test e) refl (last-is test at (at + 1) es
         none zero x g = let same : e ≡ x = cc in ap test (sym same) ∙ t
         none (suc j) x g = n.0.fails j x g
 
-pub last-none : (test : Entry → Bool) (es : List Entry) → last_where test es ≡ 0 → NoneOf test es
-last-none test es z = by (last-is test 0 1 es)
-  where
-    by : (NoneOf test es × (last_where test es ≡ 0)) ⊎ LastAt test 1 es (last_where test es) → NoneOf test es
-    by (inl n) = n.0
-    by (inr l) = let is = l.is in absurd (omega (arith, is, z))
-
 pub last-some : (test : Entry → Bool) (es : List Entry) (p : ℕ) → p ≡ last_where test es → (p ≡ 0 → ⊥) → LastAt test 1 es p
 last-some test es p h some = by (last-is test 0 1 es)
   where

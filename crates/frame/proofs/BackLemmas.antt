@@ -1,10 +1,9 @@
 -- The stacks after a `$}`, found by walking back over the active statements of a kind in its block.
-use Rattle.std.specs.Prelude.{option_map}
-use Rattle.frame.proofs.Words.{◌≡◌, ◌∙◌, ap, sym, subst, arith, refl, inl, inr, ℕ, suc, ◌+◌, ◌-◌, ◌<◌, ◌≤◌, ◌⊎◌, Bool, true, false, cond, nat_eq, List, [], ◌∷◌, ◌++◌, length, length-take, take, take_all, take-append_seam, length-append, append_assoc, append-nil, slice_get, Some, list_any, Stmt, Database, Entry, Kind, LastActive, is_open, is_close, codes_by, entries_by, long_entry, length-map, slice_get-map, actives, actives_from, last_active_of_kind, last_active_of, Storage, statements_of, names_in, labels_in, stmt_of, AreStored, Disj, Ess, Var, StackVersion, IsUntil, AreUntil, history, kept_until, reverted, stack_at, stack-later, stack-changed, option_symbols, has_code, positions_with, AreStacks, kind_test, latest_of, last_by_kind, opening, KeepsUntil, AreChangedBy, IsNext, NextStatement, AreStacksOfStorage}
+use Rattle.frame.proofs.Words.{◌≡◌, ◌∙◌, ap, sym, subst, arith, refl, inl, inr, ℕ, suc, ◌+◌, ◌-◌, ◌<◌, ◌≤◌, ◌⊎◌, Bool, true, false, cond, nat_eq, List, [], ◌∷◌, ◌++◌, length, length-take, take, take_all, take-append_seam, length-append, append_assoc, append-nil, slice_get, Some, list_any, Stmt, Database, Entry, Kind, LastActive, is_open, is_close, actives, actives_from, last_active_of_kind, last_active_of, Storage, statements_of, names_in, labels_in, stmt_of, AreStored, Disj, Var, StackVersion, IsUntil, AreUntil, history, kept_until, reverted, stack_at, stack-later, stack-changed, option_symbols, has_code, positions_with, AreStacks, kind_test, latest_of, last_by_kind, opening, KeepsUntil, AreChangedBy, IsNext, NextStatement, AreStacksOfStorage}
 use Rattle.mm_read.specs.declared.stmt.Stmt.TheVariants as stmt
 use Rattle.entries.specs.declared.kind.Kind.TheVariants.{Close}
 use Rattle.frame.proofs.OpenLemmas.{HasLast, split_last, last-position, actives-append, stays-from, is-open}
-use Rattle.frame.proofs.KindWalk.{IsChain, IsAt, disjoint_chain, essential_chain, variable_chain, walked, as-many, walk-from, walk-step}
+use Rattle.frame.proofs.KindWalk.{IsChain, IsAt, disjoint_chain, variable_chain, walked, as-many, walk-from, walk-step}
 use Rattle.frame.proofs.StackLemmas.{AreIn, actives-in, positions_with-push, all-later, next-same, back-twice, back-until, back-kept, opening-back, opening-some, opening-low}
 use Rattle.frame.proofs.BlockWalkLemmas.{last-within}
 
@@ -56,22 +55,11 @@ module _ (kind : Stmt → Bool) (no_open : kind stmt.Open ≡ false) (S : Databa
 
 chain_of : (of : Kind) → IsChain (kind_test of) (last_by_kind of)
 chain_of Disj = disjoint_chain
-chain_of Ess = essential_chain
 chain_of kind = variable_chain
 
 pub no-open : (of : Kind) → kind_test of stmt.Open ≡ false
 no-open Disj = refl
-no-open Ess = refl
 no-open kind = refl
-
-by-count : (of : Kind) (es : List Entry) → length (entries_by of es) ≡ length es
-by-count Ess es = length-map es long_entry
-by-count of es = refl
-
--- the symbols of a statement by which the stacks of a kind are made
-pub by-codes : (of : Kind) (es : List Entry) (p c : ℕ) (e : Entry) → slice_get es (p - 1) ≡ Some e → has_code (entries_by of es) c p ≡ list_any (λ y. nat_eq c y) (codes_by of e.symbols)
-by-codes Ess es p c e got = ap (λ o. list_any (λ y. nat_eq c y) (option_symbols o)) (slice_get-map long_entry es (p - 1) ∙ ap (option_map long_entry) got)
-by-codes of es p c e got = ap (λ o. list_any (λ y. nat_eq c y) (option_symbols o)) got
 
 -- ---- the walk: each stack went back, or is that of the statements that are left
 
@@ -80,9 +68,9 @@ pub record IsGoing (of : Kind) (k : Storage) (block before at p : ℕ) (old now 
   pub rest : List (ℕ × Stmt)
   pub list : actives (kind_test of) (statements_of k) ≡ walked (kind_test of) k p ++ rest
   pub above : AreIn (suc block) (length k.entries) rest
-  pub each : (c : ℕ) → (history now c ≡ reverted at before (history old c)) ⊎ ((history now c ≡ history old c) × (stack_at (history old c) at ≡ positions_with (entries_by of k.entries) c (walked (kind_test of) k p)))
+  pub each : (c : ℕ) → (history now c ≡ reverted at before (history old c)) ⊎ ((history now c ≡ history old c) × (stack_at (history old c) at ≡ positions_with k.entries c (walked (kind_test of) k p)))
 
-module _ (of : Kind) (k : Storage) (block before at : ℕ) (old : List (List StackVersion)) (stored : AreStored k) (stacks : AreStacks (kind_test of) old (entries_by of k.entries) (statements_of k)) (place : at ≡ length k.entries + 1) where
+module _ (of : Kind) (k : Storage) (block before at : ℕ) (old : List (List StackVersion)) (stored : AreStored k) (stacks : AreStacks (kind_test of) old k.entries (statements_of k)) (place : at ≡ length k.entries + 1) where
   abbrev S : Database
   S = statements_of k
 
@@ -101,11 +89,11 @@ module _ (of : Kind) (k : Storage) (block before at : ℕ) (old : List (List Sta
         above = tt;
         each = λ c. inr (
           refl,
-          stacks.each c at (omega (arith, place)) (omega (arith, place, by-count of k.entries)) ∙ ap (positions_with (entries_by of k.entries) c) (ap (actives kind) (take_all (at - 1) S (omega (arith, place, as-many k))) ∙ sym same),
+          stacks.each c at (omega (arith, place)) (omega (arith, place)) ∙ ap (positions_with k.entries c) (ap (actives kind) (take_all (at - 1) S (omega (arith, place, as-many k))) ∙ sym same),
         );
       }
 
-  pub going-step : (p : ℕ) (now new : List (List StackVersion)) (e : Entry) → IsGoing of k block before at p old now → block < p → slice_get k.entries (p - 1) ≡ Some e → AreChangedBy (reverted at before) (codes_by of e.symbols) now new
+  pub going-step : (p : ℕ) (now new : List (List StackVersion)) (e : Entry) → IsGoing of k block before at p old now → block < p → slice_get k.entries (p - 1) ≡ Some e → AreChangedBy (reverted at before) e.symbols now new
       → IsGoing of k block before at (last_by_kind of e.last_active) old new
   going-step p now new e g lt got are =
       let s = walk-step e (chain_of of) stored g.place (omega (arith, lt)) got in
@@ -116,22 +104,22 @@ module _ (of : Kind) (k : Storage) (block before at : ℕ) (old : List (List Sta
         rest = x ∷ g.rest;
         list = g.list ∙ (ap (λ r. r ++ g.rest) s.list ∙ append_assoc (walked kind k (last_by_kind of e.last_active)) (x ∷ []) g.rest);
         above = ((omega (arith, lt), within), g.above);
-        each = λ c. by c (list_any (λ y. nat_eq c y) (codes_by of e.symbols)) refl (are c) (g.each c);
+        each = λ c. by c (list_any (λ y. nat_eq c y) e.symbols) refl (are c) (g.each c);
       }
     where
-      by : (c : ℕ) (b : Bool) → list_any (λ y. nat_eq c y) (codes_by of e.symbols) ≡ b → history new c ≡ cond b (reverted at before (history now c)) (history now c)
-          → (history now c ≡ reverted at before (history old c)) ⊎ ((history now c ≡ history old c) × (stack_at (history old c) at ≡ positions_with (entries_by of k.entries) c (walked kind k p)))
-          → (history new c ≡ reverted at before (history old c)) ⊎ ((history new c ≡ history old c) × (stack_at (history old c) at ≡ positions_with (entries_by of k.entries) c (walked kind k (last_by_kind of e.last_active))))
+      by : (c : ℕ) (b : Bool) → list_any (λ y. nat_eq c y) e.symbols ≡ b → history new c ≡ cond b (reverted at before (history now c)) (history now c)
+          → (history now c ≡ reverted at before (history old c)) ⊎ ((history now c ≡ history old c) × (stack_at (history old c) at ≡ positions_with k.entries c (walked kind k p)))
+          → (history new c ≡ reverted at before (history old c)) ⊎ ((history new c ≡ history old c) × (stack_at (history old c) at ≡ positions_with k.entries c (walked kind k (last_by_kind of e.last_active))))
       by c true has h (inl back) = inl (h ∙ (ap (reverted at before) back ∙ back-twice at before (history old c)))
       by c true has h (inr stay) = inl (h ∙ ap (reverted at before) stay.0)
       by c false has h (inl back) = inl (h ∙ back)
       by c false has h (inr stay) =
           let s = walk-step e (chain_of of) stored g.place (omega (arith, lt)) got in
           let q = last_by_kind of e.last_active in
-          let told : has_code (entries_by of k.entries) c p ≡ false = by-codes of k.entries p c e got ∙ has in
+          let told : has_code k.entries c p ≡ false = ap (λ o. list_any (λ y. nat_eq c y) (option_symbols o)) got ∙ has in
           inr (
             h ∙ stay.0,
-            stay.1 ∙ (ap (positions_with (entries_by of k.entries) c) s.list ∙ (positions_with-push (entries_by of k.entries) c (walked kind k q) (p, stmt_of (names_in k) (labels_in k) e) ∙ ap (λ t. cond t (p ∷ positions_with (entries_by of k.entries) c (walked kind k q)) (positions_with (entries_by of k.entries) c (walked kind k q))) told)),
+            stay.1 ∙ (ap (positions_with k.entries c) s.list ∙ (positions_with-push k.entries c (walked kind k q) (p, stmt_of (names_in k) (labels_in k) e) ∙ ap (λ t. cond t (p ∷ positions_with k.entries c (walked kind k q)) (positions_with k.entries c (walked kind k q))) told)),
           )
 
   module _ (p : ℕ) (now : List (List StackVersion)) (g : IsGoing of k block before at p old now) where
@@ -139,19 +127,19 @@ module _ (of : Kind) (k : Storage) (block before at : ℕ) (old : List (List Sta
     low = omega (arith, place)
 
     old-until : AreUntil (at - 1) old
-    old-until c = subst (λ n. IsUntil n (history old c)) (omega (arith, place, by-count of k.entries)) (stacks.until c)
+    old-until c = subst (λ n. IsUntil n (history old c)) (omega (arith, place)) (stacks.until c)
 
     pub going-until : AreUntil at now
     going-until c = by (g.each c)
       where
-        by : (history now c ≡ reverted at before (history old c)) ⊎ ((history now c ≡ history old c) × (stack_at (history old c) at ≡ positions_with (entries_by of k.entries) c (walked kind k p))) → IsUntil at (history now c)
+        by : (history now c ≡ reverted at before (history old c)) ⊎ ((history now c ≡ history old c) × (stack_at (history old c) at ≡ positions_with k.entries c (walked kind k p))) → IsUntil at (history now c)
         by (inl back) = subst (IsUntil at) (sym back) (back-until at before (history old c) (all-later (at - 1) at old (omega arith) old-until c))
         by (inr stay) = subst (IsUntil at) (sym stay.0) (all-later (at - 1) at old (omega arith) old-until c)
 
     pub going-kept : KeepsUntil (at - 1) old now
     going-kept c = by (g.each c)
       where
-        by : (history now c ≡ reverted at before (history old c)) ⊎ ((history now c ≡ history old c) × (stack_at (history old c) at ≡ positions_with (entries_by of k.entries) c (walked kind k p))) → kept_until (at - 1) (history now c) ≡ kept_until (at - 1) (history old c)
+        by : (history now c ≡ reverted at before (history old c)) ⊎ ((history now c ≡ history old c) × (stack_at (history old c) at ≡ positions_with k.entries c (walked kind k p))) → kept_until (at - 1) (history now c) ≡ kept_until (at - 1) (history old c)
         by (inl back) = ap (kept_until (at - 1)) back ∙ back-kept at before (at - 1) low (history old c)
         by (inr stay) = ap (kept_until (at - 1)) stay.0
 
@@ -161,15 +149,15 @@ module _ (of : Kind) (k : Storage) (block before at : ℕ) (old : List (List Sta
         last : block ≡ last_active_of_kind is_open S
         last = is ∙ ap (λ l. l.block) stored.kept.last
 
-        by : (c : ℕ) → (history now c ≡ reverted at before (history old c)) ⊎ ((history now c ≡ history old c) × (stack_at (history old c) at ≡ positions_with (entries_by of k.entries) c (walked kind k p))) → stack_at (history now c) (at + 1) ≡ stack_at (history old c) (opening block)
+        by : (c : ℕ) → (history now c ≡ reverted at before (history old c)) ⊎ ((history now c ≡ history old c) × (stack_at (history old c) at ≡ positions_with k.entries c (walked kind k p))) → stack_at (history now c) (at + 1) ≡ stack_at (history old c) (opening block)
         by c (inl back) =
             ap (λ vs. stack_at vs (at + 1)) back ∙ (stack-changed at (stack_at (history old c) before) (history old c) (at - 1) (old-until c) low ∙ ap (stack_at (history old c)) opens)
         by c (inr stay) =
             ap (λ vs. stack_at vs (at + 1)) stay.0
             ∙ (stack-later (history old c) (at - 1) (at + 1) at (old-until c) (omega arith) low
             ∙ (stay.1
-            ∙ (ap (positions_with (entries_by of k.entries) c) (front-same kind (no-open of) S block last p (length k.entries) g.rest le g.list g.above ∙ ap (λ n. actives kind (take n S)) (sym (opening-back block)))
-            ∙ sym (stacks.each c (opening block) (opening-some block) (omega (arith, opening-low block, last, last-within is_open S refl, as-many k, by-count of k.entries))))))
+            ∙ (ap (positions_with k.entries c) (front-same kind (no-open of) S block last p (length k.entries) g.rest le g.list g.above ∙ ap (λ n. actives kind (take n S)) (sym (opening-back block)))
+            ∙ sym (stacks.each c (opening block) (opening-some block) (omega (arith, opening-low block, last, last-within is_open S refl, as-many k))))))
 
 -- ---- the walk over the entries of a storage
 
@@ -178,8 +166,8 @@ pub record IsBackTo (of : Kind) (es : List Entry) (last_active : LastActive) (be
   pub going : IsGoing of walked_by.storage last_active.block before at p old now
 
 module _ (of : Kind) (es : List Entry) (last_active : LastActive) (before at : ℕ) (old : List (List StackVersion)) (place : at ≡ length es + 1) where
-  stacks-of : (w : AreStacksOfStorage of es last_active old) → AreStacks (kind_test of) old (entries_by of w.storage.entries) (statements_of w.storage)
-  stacks-of w = subst (λ fs. AreStacks (kind_test of) old (entries_by of fs) (statements_of w.storage)) w.entries_are w.stacks
+  stacks-of : (w : AreStacksOfStorage of es last_active old) → AreStacks (kind_test of) old w.storage.entries (statements_of w.storage)
+  stacks-of w = subst (λ fs. AreStacks (kind_test of) old fs (statements_of w.storage)) w.entries_are w.stacks
 
   place-of : (w : AreStacksOfStorage of es last_active old) → at ≡ length w.storage.entries + 1
   place-of w = place ∙ ap (λ fs. length fs + 1) w.entries_are
@@ -210,7 +198,7 @@ module _ (of : Kind) (es : List Entry) (last_active : LastActive) (before at : �
       pub back-smaller : last_by_kind of e.last_active < p
       back-smaller = (walk-step e (chain_of of) w.stored b.going.place (omega (arith, lt)) there).smaller
 
-      pub back-step : (new : List (List StackVersion)) → AreChangedBy (reverted at before) (codes_by of e.symbols) now new → IsBackTo of es last_active before at (last_by_kind of e.last_active) old new
+      pub back-step : (new : List (List StackVersion)) → AreChangedBy (reverted at before) e.symbols now new → IsBackTo of es last_active before at (last_by_kind of e.last_active) old new
       back-step new are = record { walked_by = w; going = going-step of w.storage last_active.block before at old w.stored (stacks-of w) (place-of w) p now new e b.going lt there are }
 
 -- ---- a statement of a kind that changes no stack
@@ -225,17 +213,12 @@ latest-var-other Var x hs c d e = absurd (d refl)
 latest-var-other Close x hs c d e = absurd (e refl)
 latest-var-other q x hs c d e = refl
 
-pub latest-ess-other : (q : Kind) (x : NextStatement) (hs : List (List StackVersion)) (c : ℕ) → (q ≡ Ess → ⊥) → (q ≡ Close → ⊥) → latest_of Ess q x hs c ≡ stack_at (history hs c) x.at
-latest-ess-other Ess x hs c d e = absurd (d refl)
-latest-ess-other Close x hs c d e = absurd (e refl)
-latest-ess-other q x hs c d e = refl
-
 pub next-other : (at : ℕ) (old : List (List StackVersion)) (after : ℕ → List ℕ) → 1 ≤ at → AreUntil (at - 1) old → ((c : ℕ) → after c ≡ stack_at (history old c) at) → IsNext at after old old
 next-other at old after one until is = let n = next-same at one old until in record { latest = λ c. n.latest c ∙ sym (is c); until = n.until; kept = n.kept }
 
 -- no version was made after the last entry
 pub walked-until : (of : Kind) (es : List Entry) (last_active : LastActive) (hs : List (List StackVersion)) (at : ℕ) → AreStacksOfStorage of es last_active hs → at ≡ length es + 1 → AreUntil (at - 1) hs
-walked-until of es last_active hs at w place c = subst (λ n. IsUntil n (history hs c)) (omega (arith, place, by-count of es)) (w.stacks.until c)
+walked-until of es last_active hs at w place c = subst (λ n. IsUntil n (history hs c)) (omega (arith, place)) (w.stacks.until c)
 
 -- a storage whose other parts grew still has the stacks that it had
 pub walked-disj : (old : Storage) (es : List Entry) (last_active : LastActive) (hs : List (List StackVersion)) → AreStored old → es ≡ old.entries → last_active ≡ old.last_active → hs ≡ old.disjoints → AreStacksOfStorage Disj es last_active hs
@@ -243,6 +226,3 @@ walked-disj old es last_active hs stored entries same is = record { storage = ol
 
 pub walked-var : (old : Storage) (es : List Entry) (last_active : LastActive) (hs : List (List StackVersion)) → AreStored old → es ≡ old.entries → last_active ≡ old.last_active → hs ≡ old.variables → AreStacksOfStorage Var es last_active hs
 walked-var old es last_active hs stored entries same is = record { storage = old; stored = stored; entries_are = entries; last_active_are = same; stacks = rw (is, entries) stored.variables }
-
-pub walked-ess : (old : Storage) (es : List Entry) (last_active : LastActive) (hs : List (List StackVersion)) → AreStored old → es ≡ old.entries → last_active ≡ old.last_active → hs ≡ old.essentials → AreStacksOfStorage Ess es last_active hs
-walked-ess old es last_active hs stored entries same is = record { storage = old; stored = stored; entries_are = entries; last_active_are = same; stacks = rw (is, entries) stored.essentials }

@@ -1,5 +1,5 @@
 -- Collecting positions: the steps of the loops.
-use Rattle.frame.proofs.Words.{◌||◌, ◌==◌, list_any, list_any-append, or_cases, sym, ◌∙◌, ap, subst, arith, inl, inr, ⊎_elim, true≢false, cond, false, nat_cmp, ◌≡◌, ℕ, suc, ◌+◌, ◌-◌, ◌<◌, ◌≤◌, Bool, true, ◌⊎◌, List, [], ◌∷◌, ◌++◌, length, map, get_or, slice_get, eqb, Some, refl, ⊎_map, and_parts, or_left, length-map, Contains, dedup, slice_get_within, slice_get_read, get_or_from_slice_get, is_active, Storage, Database, Name, Kind, Float, Var, Entry, In, Ascends, ListsExactly, HasMore, HoldsForSome, IsFloatOf, HasLookedUpFloats, AreFloats, AreWithEssentials, AreCollected, is_float_with, last_where, stmt_by, stmt_of, is_float_kind, is_var_kind, names_in, labels_in, statements_of, IsPlain, Contains-dedup_nat, Contains-from_dedup, Contains-permutation, IsPermutation-sym, IsStrictlyIncreasing-dedup, IsPermutation, IsSorted, IsStrictlyIncreasing}
+use Rattle.frame.proofs.Words.{◌||◌, ◌==◌, list_any, list_any-append, or_cases, sym, ◌∙◌, ap, subst, arith, inl, inr, ⊎_elim, true≢false, cond, false, nat_cmp, ◌≡◌, ℕ, suc, ◌+◌, ◌-◌, ◌<◌, ◌≤◌, Bool, true, ◌⊎◌, List, [], ◌∷◌, ◌++◌, length, map, get_or, slice_get, eqb, Some, refl, ⊎_map, and_parts, length-map, Contains, dedup, slice_get_within, slice_get_read, get_or_from_slice_get, is_active, Storage, Database, Name, Kind, Float, Entry, In, Ascends, ListsExactly, HasMore, HoldsForSome, IsFloatOf, HasLookedUpFloats, AreFloats, AreWithEssentials, AreCollected, is_float_with, last_where, stmt_by, stmt_of, is_float_kind, names_in, labels_in, statements_of, IsPlain, Contains-dedup_nat, Contains-from_dedup, Contains-permutation, IsPermutation-sym, IsStrictlyIncreasing-dedup, IsPermutation, IsSorted, IsStrictlyIncreasing}
 use Rattle.frame.proofs.AscendingLists.{in-place, place-in, above-less}
 use Rattle.frame.proofs.StoredReading.{get-stmt}
 use Rattle.frame.proofs.ActivePositions.{last-some}
@@ -15,15 +15,14 @@ stands-plain test names labels es p plain h some =
     let there = ap (slice_get (map (stmt_of names labels) es)) back ∙ get-stmt names labels es r.place r.entry r.found in
     (omega (arith, at), omega (arith, at, lt), subst IsPlain (sym there) (plain r.entry r.passes))
 
--- a `$f` and a `$v` neither open nor close a block
-pub kind-plain : (kind : Kind) (label : Name) (names : List Name) → (is_float_kind kind || is_var_kind kind) ≡ true → IsPlain (Some (stmt_by kind label names))
-kind-plain Float label names h = (refl, refl)
-kind-plain Var label names h = (refl, refl)
-kind-plain kind label names h = cc
+-- a `$f` neither opens nor closes a block
+float-plain : (kind : Kind) (label : Name) (names : List Name) → is_float_kind kind ≡ true → IsPlain (Some (stmt_by kind label names))
+float-plain Float label names h = (refl, refl)
+float-plain kind label names h = cc
 
 pub float-stands : (names labels : List Name) (es : List Entry) (c p : ℕ) → p ≡ last_where (is_float_with c) es → (p ≡ 0 → ⊥)
     → (1 ≤ p) × (p ≤ length es) × IsPlain (slice_get (map (stmt_of names labels) es) (p - 1))
-float-stands names labels es c p h some = stands-plain (is_float_with c) names labels es p (λ e f. kind-plain e.kind _ _ (or_left (is_float_kind e.kind) _ (and_parts (is_float_kind e.kind) _ f).0)) h some
+float-stands names labels es c p h some = stands-plain (is_float_with c) names labels es p (λ e f. float-plain e.kind _ _ (and_parts (is_float_kind e.kind) _ f).0) h some
 
 pub index-is : {A : Type 0} (xs : List A) (i : ℕ) (x y : A) → slice_get xs i ≡ Some y → x ≡ get_or xs i x → x ≡ y
 index-is xs i x y h e = e ∙ get_or_from_slice_get xs i y x h

@@ -1,7 +1,7 @@
 -- The storage after it is cut to its first statements, and after added statements are removed
 -- again.
-use Rattle.frame.proofs.Words.{sym, ◌∙◌, ap, subst, arith, take-take, ◌≡◌, ℕ, ◌+◌, ◌<◌, ◌≤◌, true, List, length, map, take, drop, slice_get, Some, refl, suc, [], ◌∷◌, Option, None, length-take-le, take-map, take-append-drop, take_at, length-map, Name, Database, IsNumberingOf, Declared, declared_symbols, declared_labels, stays_open, label_of, symbols_of, labels_of, prepend_option, LastActive, Entry, LastDeclarations, is_disj, is_var, last_active_of, stmt_of, statements_of, positions_from, AreAllLegal, AreGivenBy, replaced_of, last_declarations_of, names_in, labels_in, option_position, AreNumbered, KeepsCounts, HasMoreAtEnd, Storage, naming_of, AreKept, AreStored, Extends, has_parts, IsKeptAs, extends-length, extends-take, take-get, labels_of-append, AreKeptUntil}
-use Rattle.frame.proofs.StackLemmas.{essentials-back, stacks-back}
+use Rattle.frame.proofs.Words.{sym, ◌∙◌, ap, subst, arith, take-take, ◌≡◌, ℕ, ◌+◌, ◌<◌, ◌≤◌, true, List, length, map, take, drop, slice_get, Some, refl, suc, [], ◌∷◌, Option, None, length-take-le, take-map, take-append-drop, take_at, length-map, Name, Database, IsNumberingOf, Declared, declared_symbols, declared_labels, stays_open, label_of, symbols_of, labels_of, prepend_option, LastActive, Entry, is_disj, is_var, last_active_of, stmt_of, statements_of, positions_from, AreAllLegal, AreGivenBy, replaced_of, last_float, names_in, labels_in, option_position, AreNumbered, KeepsCounts, HasMoreAtEnd, Storage, naming_of, AreKept, AreStored, Extends, has_parts, IsKeptAs, extends-length, extends-take, take-get, labels_of-append, AreKeptUntil}
+use Rattle.frame.proofs.StackLemmas.{stacks-back}
 use Rattle.frame.proofs.BlockWalkLemmas.{get-take}
 use Rattle.frame.proofs.DeclaredSymbolLemmas.{symbols_of-front}
 use Rattle.frame.proofs.AssertionLemmas.{kept-moved}
@@ -34,23 +34,23 @@ positions-front n S =
 
 -- ---- the parts after the cut, where e is the entry after the first n
 
-pub record IsCut (names labels : List Name) (positions : List ℕ) (symbols : List LastDeclarations) (entries : List Entry)
-    (names' labels' : List Name) (positions' : List ℕ) (between symbols' : List LastDeclarations) (replaced' : List ℕ) (entries' : List Entry) (links' : LastActive) (n : ℕ) (e : Entry) : Type 0 where
+pub record IsCut (names labels : List Name) (positions : List ℕ) (floats : List ℕ) (entries : List Entry)
+    (names' labels' : List Name) (positions' : List ℕ) (between floats' replaced' : List ℕ) (entries' : List Entry) (links' : LastActive) (n : ℕ) (e : Entry) : Type 0 where
   pub at : slice_get entries n ≡ Some e
   pub names_cut : names' ≡ symbols_of (take n (map (stmt_of names labels) entries))
   pub labels_cut : labels' ≡ labels_of (take n (map (stmt_of names labels) entries))
   pub positions_cut : positions' ≡ take e.label_count positions
-  pub between_count : length between ≡ length symbols
-  pub symbols_cut : symbols' ≡ take e.symbol_count between
+  pub between_count : length between ≡ length floats
+  pub floats_cut : floats' ≡ take e.symbol_count between
   pub entries_cut : entries' ≡ take n entries
-  pub declared : AreGivenBy between (last_declarations_of entries')
+  pub declared : AreGivenBy between (last_float entries')
   pub recorded : replaced' ≡ replaced_of entries'
   pub last_active_back : links' ≡ e.last_active
 
-module _ {names labels : List Name} {positions : List ℕ} {symbols : List LastDeclarations} {replaced : List ℕ} {entries : List Entry} {last_active : LastActive}
-    {names' labels' : List Name} {positions' : List ℕ} {between symbols' : List LastDeclarations} {replaced' : List ℕ} {entries' : List Entry} {links' : LastActive} {n : ℕ} {e : Entry}
-    (k : AreKept names labels positions symbols replaced entries last_active)
-    (p : IsCut names labels positions symbols entries names' labels' positions' between symbols' replaced' entries' links' n e) where
+module _ {names labels : List Name} {positions : List ℕ} {floats replaced : List ℕ} {entries : List Entry} {last_active : LastActive}
+    {names' labels' : List Name} {positions' : List ℕ} {between floats' replaced' : List ℕ} {entries' : List Entry} {links' : LastActive} {n : ℕ} {e : Entry}
+    (k : AreKept names labels positions floats replaced entries last_active)
+    (p : IsCut names labels positions floats entries names' labels' positions' between floats' replaced' entries' links' n e) where
   abbrev pub S : Database
   S = map (stmt_of names labels) entries
 
@@ -93,11 +93,11 @@ module _ {names labels : List Name} {positions : List ℕ} {symbols : List LastD
   there : (i : ℕ) (d : Entry) → slice_get entries' i ≡ Some d → (i < n) × (slice_get entries i ≡ Some d)
   there i d h = take-get n i entries d (ap (λ r. slice_get r i) (sym p.entries_cut) ∙ h)
 
-  -- each symbol that remains has the last of its declarations that remain
-  symbols'' : (c : ℕ) → c < length names' → slice_get symbols' c ≡ Some (last_declarations_of entries' c)
-  symbols'' c lt =
+  -- each symbol that remains has the last of its `$f` that remain
+  floats'' : (c : ℕ) → c < length names' → slice_get floats' c ≡ Some (last_float entries' c)
+  floats'' c lt =
       let a = names-count in let b = p.between_count in let d = k.count in let w = within in
-      ap (λ r. slice_get r c) p.symbols_cut ∙ (get-take c e.symbol_count between (omega (arith, lt, a)) ∙ p.declared c (omega (arith, lt, a, b, d, w)))
+      ap (λ r. slice_get r c) p.floats_cut ∙ (get-take c e.symbol_count between (omega (arith, lt, a)) ∙ p.declared c (omega (arith, lt, a, b, d, w)))
 
   -- an entry that remains has the counts of the names and labels before it
   counts' : (i : ℕ) (d : Entry) → slice_get entries' i ≡ Some d → KeepsCounts names' labels' entries' i d
@@ -122,7 +122,7 @@ module _ {names labels : List Name} {positions : List ℕ} {symbols : List LastD
       rw (front-of i lt, ← same, p.entries_cut)
       (kept-moved names labels entries (take n entries) i (stmt_of names labels d) d.assertion (sym (take-take i n entries (omega (arith, lt)))) (k.parts_kept i d q.1 a))
 
-  pub kept-cut : AreKept names' labels' positions' symbols' replaced' entries' links'
+  pub kept-cut : AreKept names' labels' positions' floats' replaced' entries' links'
   kept-cut = record {
     last = p.last_active_back ∙ (k.linked n e p.at ∙ ap last_active_of (sym cut-statements));
     linked = λ i d h. let q = there i d h in k.linked i d q.1 ∙ ap last_active_of (sym (front-of i q.0));
@@ -132,12 +132,12 @@ module _ {names labels : List Name} {positions : List ℕ} {symbols : List LastD
     labels_kept = p.labels_cut ∙ ap labels_of (sym cut-statements);
     positions_kept = p.positions_cut ∙ (ap (take e.label_count) k.positions_kept ∙ (ap (λ m. take m (positions_from 1 S)) counts.label_count ∙ (positions-front n S ∙ ap (positions_from 1) (sym cut-statements))));
     coded = subst (AreNumbered (length names') (length labels')) (sym p.entries_cut) numbered;
-    symbols_kept = symbols'';
+    floats_kept = floats'';
     replaced_kept = p.recorded;
     counts_kept = counts';
     count =
         let a = names-count in let b = p.between_count in let d = k.count in let w = within in
-        let c : length symbols' ≡ e.symbol_count = ap length p.symbols_cut ∙ length-take-le e.symbol_count between (omega (arith, b, d, w)) in
+        let c : length floats' ≡ e.symbol_count = ap length p.floats_cut ∙ length-take-le e.symbol_count between (omega (arith, b, d, w)) in
         c ∙ sym a;
     few = let a = names-count in let f = k.few in omega (arith, a, within, f);
     parts_kept = parts';
@@ -163,18 +163,17 @@ module _ (k : Storage) (n : ℕ) (e : Entry) (stored : AreStored k) (at : slice_
 pub record IsTakenBack (old mid new : Storage) : Type 0 where
   pub after : HasMoreAtEnd old mid
   pub numbering_cut : new.numbering ≡ take (length old.numbering) mid.numbering
-  pub symbols_cut : new.symbols.items ≡ take (length (names_in new)) mid.symbols.items
+  pub floats_cut : new.floats.items ≡ take (length (names_in new)) mid.floats.items
   pub positions_cut : new.positions.items ≡ take (length (labels_in new)) mid.positions.items
   pub replaced_cut : new.replaced.items ≡ take (length old.replaced.items) mid.replaced.items
   pub ends_cut : new.ends.items ≡ take (length mid.entries) mid.ends.items
   pub entries_cut : new.entries ≡ mid.entries
   pub disjoints_cut : AreKeptUntil (length mid.entries) mid.disjoints new.disjoints
   pub variables_cut : AreKeptUntil (length mid.entries) mid.variables new.variables
-  pub essentials_cut : AreKeptUntil (length mid.entries) mid.essentials new.essentials
   pub last_active_cut : new.last_active ≡ mid.last_active
 
 module _ (old mid new : Storage) (stored : AreStored old) (t : IsTakenBack old mid new) where
-  k : AreKept (names_in old) (labels_in old) old.positions.items old.symbols.items old.replaced.items old.entries old.last_active
+  k : AreKept (names_in old) (labels_in old) old.positions.items old.floats.items old.replaced.items old.entries old.last_active
   k = stored.kept
 
   back-numbering : new.numbering ≡ old.numbering
@@ -196,22 +195,21 @@ module _ (old mid new : Storage) (stored : AreStored old) (t : IsTakenBack old m
 
   pub back-stored : AreStored new
   back-stored =
-      let z = t.after.symbols in
-      let many : length (names_in new) ≡ length old.symbols.items = ap length back-names ∙ sym k.count in
+      let z = t.after.floats in
+      let many : length (names_in new) ≡ length old.floats.items = ap length back-names ∙ sym k.count in
       let labels : length (labels_in new) ≡ length old.positions.items =
       ap length (back-labels ∙ k.labels_kept) ∙ (sym (length-positions 1 (statements_of old)) ∙ ap length (sym k.positions_kept)) in
       let all : length mid.entries ≡ length old.ends.items = ap length t.after.entries ∙ (sym (length-map old.entries (stmt_of (names_in old) (labels_in old))) ∙ sym stored.ended.count) in
       let ends : new.ends.items ≡ old.ends.items = t.ends_cut ∙ (ap (λ m. take m mid.ends.items) all ∙ take-extends old.ends.items mid.ends.items t.after.ends) in
       let positions : new.positions.items ≡ old.positions.items =
       t.positions_cut ∙ (ap (λ m. take m mid.positions.items) labels ∙ take-extends old.positions.items mid.positions.items t.after.positions) in
-      let symbols : new.symbols.items ≡ old.symbols.items = t.symbols_cut ∙ (ap (λ m. take m mid.symbols.items) many ∙ take-extends old.symbols.items mid.symbols.items (z.0, z.1)) in
+      let floats : new.floats.items ≡ old.floats.items = t.floats_cut ∙ (ap (λ m. take m mid.floats.items) many ∙ take-extends old.floats.items mid.floats.items (z.0, z.1)) in
       let long : length mid.entries ≡ length old.entries = ap length t.after.entries in
       let replaced : new.replaced.items ≡ old.replaced.items = t.replaced_cut ∙ take-extends old.replaced.items mid.replaced.items t.after.replaced in
       record {
-        kept = rw (back-names, back-labels, positions, symbols, replaced, back-entries, t.last_active_cut, t.after.last_active) k;
+        kept = rw (back-names, back-labels, positions, floats, replaced, back-entries, t.last_active_cut, t.after.last_active) k;
         numbered = back-numbering ∙ (stored.numbered ∙ ap naming_of (sym back-statements));
         ended = rw (back-statements, ends) stored.ended;
         disjoints = rw (back-statements, back-entries) (stacks-back is_disj old.disjoints mid.disjoints new.disjoints old.entries (statements_of old) stored.disjoints t.after.disjoints (subst (λ m. AreKeptUntil m mid.disjoints new.disjoints) long t.disjoints_cut));
         variables = rw (back-statements, back-entries) (stacks-back is_var old.variables mid.variables new.variables old.entries (statements_of old) stored.variables t.after.variables (subst (λ m. AreKeptUntil m mid.variables new.variables) long t.variables_cut));
-        essentials = rw (back-statements, back-entries) (essentials-back old.essentials mid.essentials new.essentials old.entries (statements_of old) stored.essentials t.after.essentials (subst (λ m. AreKeptUntil m mid.essentials new.essentials) long t.essentials_cut));
       }

@@ -1,9 +1,9 @@
 -- A statement is entered: the new entry has its meaning, and the storage has its parts.
-use Rattle.frame.proofs.Words.{sym, ◌∙◌, ap, subst, arith, length-append, inl, inr, ◌≡◌, ℕ, List, [], ◌∷◌, ◌++◌, length, take, slice_get, Option, Some, true, refl, ◌+◌, ◌<◌, ◌⊎◌, map, length-map, take-append-le, map_push, same_Some, take-append_seam, name_at-last, Name, Stmt, Database, bare, label_of, expr_of, is_assertion, is_essential, stays_open, declared_with, IsRecordedBy, IsLegal, name_at, decode, with_names, symbols_declared_by, symbols_in, symbols_of, symbols_after, labels_of, prepend_option, AreNumbers, AreVariableNumbers, AreRecorded, IsNumberingOf, numbering-after, recorded-after, symbols_of-append, labels_of-append, AreBelow, Assertion, Entry, entry_by, Kind, Ess, Storage, names_in, labels_in, stmt_by, stmt_of, statements_of, option_position, AreGivenBy, replaced_by, last_declarations_of, positions_from, AreAllLegal, AreStored, IsKeptOf, AreKept, floats_in, kept_with, has_parts, IsKeptAs, is_labelled_kind, kind_of, IsLabelBelow, HasTwoSymbolsIfFloat, HasMoreNames, HasRoom, with_declared, AreNumbered, with_entry, KeepsCounts, LastActive, LastDeclarations, last_active_of, naming_of, get-last, Extends, get-push, extends-length, bare-same, symbols_declared_by-bare, declared_with-bare, legal-bare, EntryHeader, IsEntryHeader}
+use Rattle.frame.proofs.Words.{sym, ◌∙◌, ap, subst, arith, length-append, inl, inr, ◌≡◌, ℕ, List, [], ◌∷◌, ◌++◌, length, take, slice_get, Option, Some, true, refl, ◌+◌, ◌<◌, ◌⊎◌, map, length-map, take-append-le, map_push, same_Some, take-append_seam, name_at-last, Name, Stmt, Database, bare, label_of, expr_of, is_assertion, is_essential, stays_open, declared_with, IsRecordedBy, IsLegal, name_at, decode, with_names, symbols_declared_by, symbols_in, symbols_of, symbols_after, labels_of, prepend_option, AreNumbers, AreVariableNumbers, AreRecorded, IsNumberingOf, numbering-after, recorded-after, symbols_of-append, labels_of-append, AreBelow, Assertion, Entry, entry_by, Kind, Ess, Storage, names_in, labels_in, stmt_by, stmt_of, statements_of, option_position, AreGivenBy, positions_from, AreAllLegal, AreStored, IsKeptOf, AreKept, floats_in, kept_with, has_parts, IsKeptAs, is_labelled_kind, kind_of, IsLabelBelow, HasTwoSymbolsIfFloat, HasMoreNames, HasRoom, AreNumbered, KeepsCounts, LastActive, last_active_of, naming_of, get-last, Extends, get-push, extends-length, bare-same, symbols_declared_by-bare, declared_with-bare, legal-bare, EntryHeader, IsEntryHeader, option_float, typed_by, with_float, last_float}
 use Rattle.frame.proofs.DeclaredSymbolLemmas.{codes-below}
 use Rattle.frame.proofs.NamingLemmas.{stored-naming, naming_of-append, symbols-extend}
 use Rattle.frame.proofs.StoredOneMore.{still-reads, numbered-at, statements-more, stmt-more, numbered-push, positions_from-push, legal-push, stays-push}
-use Rattle.frame.proofs.DeclareLemmas.{last_declarations_of-push, replaced_of-push}
+use Rattle.frame.proofs.DeclareLemmas.{last_float-push, replaced_of-push}
 use Rattle.frame.proofs.AssertionLemmas.{kept-more, kept-moved}
 use Rattle.frame.proofs.LabelLemmas.{label-below-at}
 use Rattle.mm_read.specs.declared.stmt.Stmt.TheVariants as stmt
@@ -114,21 +114,21 @@ variable-numbers names (stmt.Float label constant variable) codes n = n
 variable-numbers names s codes n = tt
 
 -- the changes that the call makes to the parts of the storage
-pub record IsExtended (old new : Storage) (s : Stmt) (h : EntryHeader) (a : Assertion) (codes : List ℕ) (kind : Kind) (at : ℕ) (symbols : List LastDeclarations) (replaced : List ℕ) (entries : List Entry) (last_active : LastActive) : Type 0 where
+pub record IsExtended (old new : Storage) (s : Stmt) (h : EntryHeader) (a : Assertion) (codes : List ℕ) (kind : Kind) (at : ℕ) (floats replaced : List ℕ) (entries : List Entry) (last_active : LastActive) : Type 0 where
   pub grown : HasMoreNames old new
   pub room : HasRoom new
   pub positions : new.positions.items ≡ old.positions.items ++ option_position (label_of s) (length old.entries + 1) []
   pub kept : has_parts h.kind ≡ true → IsKeptOf old (bare s) a
   pub of_kind : kind ≡ h.kind
   pub place : at ≡ length old.entries + 1
-  pub recorded : (x : ℕ → LastDeclarations) → AreGivenBy new.symbols.items x → replaced ≡ new.replaced.items ++ replaced_by x kind codes
-  pub each : (c : ℕ) (x : LastDeclarations) → slice_get new.symbols.items c ≡ Some x → slice_get symbols c ≡ Some (with_declared kind codes at c x)
-  pub count : length symbols ≡ length new.symbols.items
+  pub recorded : (x : ℕ → ℕ) → AreGivenBy new.floats.items x → replaced ≡ new.replaced.items ++ option_float x (typed_by kind codes)
+  pub each : (c x : ℕ) → slice_get new.floats.items c ≡ Some x → slice_get floats c ≡ Some (with_float (typed_by kind codes) at c x)
+  pub count : length floats ≡ length new.floats.items
   pub pushed : entries ≡ new.entries ++ entry_by h codes a ∷ []
   pub linked : last_active ≡ last_active_of (statements_of old ++ bare s ∷ [])
 
-module _ {old new : Storage} {s : Stmt} {h : EntryHeader} {a : Assertion} {codes : List ℕ} {before after : Option (List ℕ)} {kind : Kind} {at : ℕ} {symbols : List LastDeclarations} {replaced : List ℕ} {entries : List Entry} {last_active : LastActive}
-    (x : IsEntered old new s h before after) (are : after ≡ Some codes) (p : IsExtended old new s h a codes kind at symbols replaced entries last_active) where
+module _ {old new : Storage} {s : Stmt} {h : EntryHeader} {a : Assertion} {codes : List ℕ} {before after : Option (List ℕ)} {kind : Kind} {at : ℕ} {floats replaced : List ℕ} {entries : List Entry} {last_active : LastActive}
+    (x : IsEntered old new s h before after) (are : after ≡ Some codes) (p : IsExtended old new s h a codes kind at floats replaced entries last_active) where
   abbrev e : Entry
   e = entry_by h codes a
 
@@ -179,15 +179,15 @@ module _ {old new : Storage} {s : Stmt} {h : EntryHeader} {a : Assertion} {codes
       by (inl q) = x.stored.kept.linked i d q.1 ∙ ap last_active_of (sym (early i q.0))
       by (inr q) = ap (λ w. w.last_active) (sym q.1) ∙ (x.header.last_active ∙ (x.stored.kept.last ∙ ap last_active_of (sym (late i q.0))))
 
-  -- the symbols as before, followed by symbols that nothing declares
-  between : AreGivenBy new.symbols.items (last_declarations_of old.entries)
-  between = still-reads (names_in old) (labels_in old) old.positions.items old.symbols.items old.replaced.items old.entries old.last_active new.symbols.items x.stored.kept p.grown.symbols
+  -- the last `$f` as before; new symbols have none
+  between : AreGivenBy new.floats.items (last_float old.entries)
+  between = still-reads (names_in old) (labels_in old) old.positions.items old.floats.items old.replaced.items old.entries old.last_active new.floats.items x.stored.kept p.grown.floats
 
-  -- each symbol has its last declarations, with those of the new statement
-  symbols' : (c : ℕ) → c < length (names_in new) → slice_get symbols c ≡ Some (last_declarations_of entries c)
-  symbols' c lt =
-      p.each c (last_declarations_of old.entries c) (between c (omega (arith, lt, p.room.count)))
-      ∙ rw (p.of_kind, entries-more) (ap Some (ap (λ n. with_entry e n c (last_declarations_of old.entries c)) (omega (arith, p.place)) ∙ sym (last_declarations_of-push old.entries e c)))
+  -- each symbol has its last `$f`, with the new statement
+  floats' : (c : ℕ) → c < length (names_in new) → slice_get floats c ≡ Some (last_float entries c)
+  floats' c lt =
+      p.each c (last_float old.entries c) (between c (omega (arith, lt, p.room.count)))
+      ∙ rw (p.of_kind, entries-more) (ap Some (ap (λ n. with_float (typed_by e.kind e.symbols) n c (last_float old.entries c)) (omega (arith, p.place)) ∙ sym (last_float-push old.entries e c)))
 
   -- each assertion is kept with its parts, and so is the new one
   parts' : (i : ℕ) (d : Entry) → slice_get entries i ≡ Some d → has_parts d.kind ≡ true → IsKeptAs entries (take i (map (stmt_of (names_in new) (labels_in new)) entries)) (stmt_of (names_in new) (labels_in new) d) d.assertion
@@ -231,7 +231,7 @@ module _ {old new : Storage} {s : Stmt} {h : EntryHeader} {a : Assertion} {codes
       let same : e ≡ d = same_Some e d (sym (ap (λ r. slice_get r (length old.entries)) entries-more ∙ get-last old.entries e) ∙ g) in
       subst (λ (w : Entry). AreVariableNumbers (symbols_after (statements_of old) s) s w.symbols) same (variable-numbers (symbols_after (statements_of old) s) s codes (numbers-after old new s h before after codes x are))
 
-  pub kept-pushed : AreKept (names_in new) (labels_in new) new.positions.items symbols replaced entries last_active
+  pub kept-pushed : AreKept (names_in new) (labels_in new) new.positions.items floats replaced entries last_active
   kept-pushed =
       let k = x.stored.kept in
       record {
@@ -245,8 +245,8 @@ module _ {old new : Storage} {s : Stmt} {h : EntryHeader} {a : Assertion} {codes
         coded = subst (AreNumbered (length (names_in new)) (length (labels_in new))) (sym entries-more)
             (numbered-push (length (names_in old)) (length (names_in new)) (length (labels_in old)) (length (labels_in new)) old.entries e (extends-length (names_in old) (names_in new) names-extend) (extends-length (labels_in old) (labels_in new) labels-extend) k.coded
             (entered-below old new s h before after codes x are) (entered-label old new s h before after codes x are) (entered-two old new s h before after codes x are));
-        symbols_kept = symbols';
-        replaced_kept = p.recorded (last_declarations_of old.entries) between ∙ rw (p.grown.replaced, p.of_kind, k.replaced_kept, entries-more) (sym (replaced_of-push old.entries e));
+        floats_kept = floats';
+        replaced_kept = p.recorded (last_float old.entries) between ∙ rw (p.grown.replaced, p.of_kind, k.replaced_kept, entries-more) (sym (replaced_of-push old.entries e));
         counts_kept = counts';
         count = p.count ∙ p.room.count;
         few = p.room.few;

@@ -1,5 +1,5 @@
 -- Walking over the active statements of a kind, from the last one back.
-use Rattle.frame.proofs.Words.{list_any, sym, ◌∙◌, ap, arith, true≢false, ◌≡◌, ℕ, zero, suc, ◌-◌, ◌<◌, ◌≤◌, Bool, true, false, cond, ◌||◌, ◌==◌, nat_eq, List, [], ◌∷◌, ◌++◌, length, take, filter, slice_get, Some, refl, or-false, length-map, list_any-append, or_right, false_from_ne_true, same_Some, has-at, name_same, same_name, Name, name_eq, has_name, Stmt, Database, active, disjoint_names, variables, is_essential, name_at, decode, AreDistinct, AreBelow, actives, last_position, last_active_of_kind, last_active_of, is_var, is_disj, Kind, Var, Disj, Entry, LastActive, Storage, stmt_by, stmt_of, names_in, labels_in, statements_of, AreStored}
+use Rattle.frame.proofs.Words.{list_any, sym, ◌∙◌, ap, arith, true≢false, ◌≡◌, ℕ, zero, suc, ◌-◌, ◌<◌, ◌≤◌, Bool, true, false, cond, ◌||◌, ◌==◌, nat_eq, List, [], ◌∷◌, ◌++◌, length, take, filter, slice_get, Some, refl, length-map, false_from_ne_true, same_Some, has-at, name_same, same_name, Name, name_eq, has_name, Stmt, Database, active, disjoint_names, variables, is_essential, name_at, decode, AreDistinct, AreBelow, actives, last_position, last_active_of_kind, last_active_of, is_var, is_disj, Kind, Var, Disj, Entry, LastActive, Storage, stmt_by, stmt_of, names_in, labels_in, statements_of, AreStored}
 use Rattle.std.specs.Cmp.{both_ways}
 use Rattle.frame.proofs.FoundByNumber.{name_at-injective}
 use Rattle.mm_read.specs.declared.stmt.Stmt.TheVariants as stmt
@@ -117,36 +117,10 @@ pub record AreLists (kind : Stmt → Bool) (lists : Stmt → List Name) : Type 0
   pub stand : (names labels : List Name) (e : Entry) → kind (stmt_of names labels e) ≡ true → lists (stmt_of names labels e) ≡ decode names e.symbols
   pub other : (s : Stmt) → kind s ≡ false → lists s ≡ []
 
-pub record IsSought (kind : Stmt → Bool) (lists : Stmt → List Name) (test : List Name → Bool) (k : Storage) (p : ℕ) (answer : Bool) : Type 0 where
-  pub at : IsAt kind k p
-  pub same : list_any (λ q. test (lists q.1)) (walked kind k p) ≡ answer
-
-pub sought-start : {kind : Stmt → Bool} {last_of_kind : LastActive → ℕ} {lists : Stmt → List Name} {test : List Name → Bool} {answer : Bool} (k : Storage) (m : ℕ) (l : LastActive) → IsChain kind last_of_kind
-    → m ≤ length (statements_of k) → l ≡ last_active_of (take m (statements_of k)) → list_any (λ q. test (lists q.1)) (walked kind k m) ≡ answer → IsSought kind lists test k (last_of_kind l) answer
-sought-start {lists = lists} {test = test} k m l chain high h is =
-    let f = walk-from k m l chain high h in
-    record { at = f.at; same = ap (list_any (λ q. test (lists q.1))) f.same ∙ is }
-
 -- if the empty list fails the test, statements of other kinds do not matter
 pub any-active : {kind : Stmt → Bool} {lists : Stmt → List Name} (test : List Name → Bool) (S : Database) → AreLists kind lists → test [] ≡ false
     → list_any (λ q. test (lists q.1)) (actives kind S) ≡ list_any (λ q. test (lists q.1)) (active S)
 any-active {kind = kind} {lists = lists} test S are none = sym (any-kind kind (λ q. test (lists q.1)) (λ q o. ap test (are.other q.1 o) ∙ none) (active S))
-
-module _ {kind : Stmt → Bool} {lists : Stmt → List Name} {test : List Name → Bool} {k : Storage} {p q : ℕ} {answer : Bool} (e : Entry) (are : AreLists kind lists) (step : IsStep kind k p e q) (w : IsSought kind lists test k p answer) where
-  joined : (list_any (λ r. test (lists r.1)) (walked kind k q) || (test (decode (names_in k) e.symbols) || false)) ≡ answer
-  joined =
-      ap (λ l. list_any (λ r. test (lists r.1)) (walked kind k q) || (test l || false)) (sym (are.stand (names_in k) (labels_in k) e step.of_kind))
-      ∙ (sym (list_any-append (λ (r : ℕ × Stmt). test (lists r.1)) (walked kind k q) ((p, stmt_of (names_in k) (labels_in k) e) ∷ [])) ∙ (ap (list_any (λ r. test (lists r.1))) (sym step.list) ∙ w.same))
-
-  pub sought-found : test (decode (names_in k) e.symbols) ≡ true → true ≡ answer
-  sought-found h =
-      sym (or_right (list_any (λ r. test (lists r.1)) (walked kind k q)) (true || false) refl) ∙ (ap (λ t. list_any (λ r. test (lists r.1)) (walked kind k q) || (t || false)) (sym h) ∙ joined)
-
-  pub sought-step : test (decode (names_in k) e.symbols) ≡ false → IsSought kind lists test k q answer
-  sought-step h = record {
-    at = step.at;
-    same = sym (or-false (list_any (λ r. test (lists r.1)) (walked kind k q))) ∙ (ap (λ t. list_any (λ r. test (lists r.1)) (walked kind k q) || (t || false)) (sym h) ∙ joined);
-  }
 
 entry-disj : (names labels : List Name) (e : Entry) → is_disj (stmt_of names labels e) ≡ true → disjoint_names (stmt_of names labels e) ≡ decode names e.symbols
 entry-disj names labels e = by e.kind

@@ -31,10 +31,6 @@ pub mod PlacedHypotheses
 pub mod KeptStatementLemmas
 pub mod WellTypedLemmas
 pub mod BufferedHypotheses
-pub mod SparseLemmas
-pub mod EssentialSetLemmas
-pub mod MergedLemmas
-pub mod MandatoryViewLemmas
 pub mod AscendingLists
 pub mod ActivePositions
 pub mod NamedCodes
@@ -43,11 +39,5 @@ pub mod CollectedLemmas
 pub mod OneFrameLemmas
 pub mod LabelLemmas
 pub mod PositionLemmas
-pub mod LongExpressionLemmas
-mod LongEssentialLemmas
-pub mod PairSearchLemmas
-pub mod PairFactLemmas
-pub mod CitingListLemmas
-pub mod KeptFactLemmas
 pub mod ShrunkStorage
 mod Rows

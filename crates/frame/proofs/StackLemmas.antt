@@ -1,5 +1,5 @@
 -- The stacks of symbols: after a statement is appended, after truncation, and after a `$}`.
-use Rattle.frame.proofs.Words.{◌≡◌, ◌∙◌, ap, sym, subst, arith, refl, inl, inr, ℕ, zero, suc, ◌+◌, ◌-◌, ◌<◌, ◌≤◌, ◌⊎◌, Bool, true, false, cond, ◌||◌, nat_eq, List, [], ◌∷◌, ◌++◌, length, filter, take, take_all, take-take, take-append-le, take-append_seam, length-append, length-take, length-take-le, get_or, slice_get, cases_lt, nat_le, list_any, list_any_more, append-nil, get-last, Stmt, Database, Entry, stays_open, active_from, is_open, is_close, actives, actives_from, is_disj, is_essential, is_var, last_active_of_kind, kind_of, Storage, AreStored, names_in, labels_in, statements_of, stmt_of, length-map, map, map-append, take-map, long_codes, long_entry, Disj, Ess, Var, StackVersion, IsUntil, AreUntil, AreSame, AreKeptUntil, history, kept_until, pushed, reverted, stack_at, until-later, until-kept, stack-later, stack-kept, stack-changed, changed-twice, until-changed, kept-changed, NextStatement, option_symbols, has_code, having_after, positions_with, AreStacks, opening, with_top, latest_of, KeepsUntil, AreChangedBy, IsNext, leb-true}
+use Rattle.frame.proofs.Words.{◌≡◌, ◌∙◌, ap, sym, subst, arith, refl, inl, inr, ℕ, zero, suc, ◌+◌, ◌-◌, ◌<◌, ◌≤◌, ◌⊎◌, Bool, true, false, cond, ◌||◌, nat_eq, List, [], ◌∷◌, ◌++◌, length, filter, take, take_all, take-take, take-append-le, take-append_seam, length-append, length-take, length-take-le, get_or, slice_get, cases_lt, nat_le, list_any, list_any_more, append-nil, get-last, Stmt, Database, Entry, stays_open, active_from, is_open, is_close, actives, actives_from, is_disj, is_var, last_active_of_kind, kind_of, Storage, AreStored, names_in, labels_in, statements_of, stmt_of, length-map, Disj, Var, StackVersion, IsUntil, AreUntil, AreSame, AreKeptUntil, history, kept_until, pushed, reverted, stack_at, until-later, until-kept, stack-later, stack-kept, stack-changed, changed-twice, until-changed, kept-changed, NextStatement, option_symbols, has_code, having_after, positions_with, AreStacks, opening, with_top, latest_of, KeepsUntil, AreChangedBy, IsNext, leb-true}
 use Rattle.mm_read.specs.declared.stmt.Stmt.TheVariants as stmt
 use Rattle.entries.specs.Histories.{AreWith}
 use Rattle.frame.proofs.OpenLemmas.{IsNoClose}
@@ -220,17 +220,6 @@ module _ (hs : List (List StackVersion)) (es : List Entry) (S : Database) (e : E
       by (stmt.Var n) is = ap (λ l. with_top l x.at hs c) codes ∙ latest-own is_var hs es S e s are size x.at place (ap is_close is) (ap is_var is) c
       by t is = latest-other is_var hs es S e s are size x.at place (ap is_close is) (ap is_var is) c
 
-  pub latest-ess : AreStacks is_essential hs (map long_entry es) S → (c : ℕ) → latest_of Ess x.kind x hs c ≡ positions_with (map long_entry es ++ long_entry e ∷ []) c (actives is_essential (S ++ s ∷ []))
-  latest-ess are c = subst (λ k. latest_of Ess k x hs c ≡ positions_with (map long_entry es ++ long_entry e ∷ []) c (actives is_essential (S ++ s ∷ []))) (sym of_kind) (by s refl)
-    where
-      many : length (map long_entry es) ≡ length es
-      many = length-map es long_entry
-
-      by : (t : Stmt) → s ≡ t → latest_of Ess (kind_of t) x hs c ≡ positions_with (map long_entry es ++ long_entry e ∷ []) c (actives is_essential (S ++ s ∷ []))
-      by stmt.Close is = latest-close is_essential hs (map long_entry es) S (long_entry e) s are (many ∙ size) refl x.last_active.block block is c
-      by (stmt.Ess l f) is = ap (λ l. with_top (long_codes l) x.at hs c) codes ∙ latest-own is_essential hs (map long_entry es) S (long_entry e) s are (many ∙ size) x.at (omega (arith, place, many)) (ap is_close is) (ap is_essential is) c
-      by t is = latest-other is_essential hs (map long_entry es) S (long_entry e) s are (many ∙ size) x.at (omega (arith, place, many)) (ap is_close is) (ap is_essential is) c
-
 -- ---- the first statements alone, and the same stacks in another table
 
 pub stacks-front : (kind : Stmt → Bool) (hs new : List (List StackVersion)) (es : List Entry) (S : Database) (n : ℕ) → AreStacks kind hs es S → n ≤ length es → AreKeptUntil n hs new → AreStacks kind new (take n es) (take n S)
@@ -257,16 +246,6 @@ stacks-same kind hs new es S are same = record {
 pub stacks-back : (kind : Stmt → Bool) (old mid new : List (List StackVersion)) (es : List Entry) (S : Database) → AreStacks kind old es S → KeepsUntil (length es) old mid → AreKeptUntil (length es) mid new → AreStacks kind new es S
 stacks-back kind old mid new es S are keeps kept = stacks-same kind old new es S are (λ c. kept c ∙ (keeps c ∙ until-kept (length es) (history old c) (are.until c)))
 
--- the stacks of a storage, after a statement is appended
-pub essentials-front : (hs new : List (List StackVersion)) (es : List Entry) (S : Database) (n : ℕ) → AreStacks is_essential hs (map long_entry es) S → n ≤ length es → AreKeptUntil n hs new → AreStacks is_essential new (map long_entry (take n es)) (take n S)
-essentials-front hs new es S n are le kept =
-    subst (λ fs. AreStacks is_essential new fs (take n S)) (take-map long_entry n es) (stacks-front is_essential hs new (map long_entry es) S n are (omega (arith, le, length-map es long_entry)) kept)
-
-pub essentials-back : (old mid new : List (List StackVersion)) (es : List Entry) (S : Database) → AreStacks is_essential old (map long_entry es) S → KeepsUntil (length es) old mid → AreKeptUntil (length es) mid new → AreStacks is_essential new (map long_entry es) S
-essentials-back old mid new es S are keeps kept =
-    let many = sym (length-map es long_entry) in
-    stacks-back is_essential old mid new (map long_entry es) S are (subst (λ n. KeepsUntil n old mid) many keeps) (subst (λ n. AreKeptUntil n mid new) many kept)
-
 -- the stacks of a storage, with one statement more
 module _ (old : Storage) (s : Stmt) (e : Entry) (x : NextStatement) (stored : AreStored old) (place : x.at ≡ length old.entries + 1) (codes : x.codes.now ≡ e.symbols) (of_kind : x.kind ≡ kind_of s) (last_active : x.last_active ≡ old.last_active)
     (hs new : List (List StackVersion)) (es : List Entry) (T : Database) (entries : es ≡ old.entries ++ e ∷ []) (statements : T ≡ statements_of old ++ s ∷ []) where
@@ -285,13 +264,6 @@ module _ (old : Storage) (s : Stmt) (e : Entry) (x : NextStatement) (stored : Ar
   variables-next same next =
       let are : AreStacks is_var hs old.entries (statements_of old) = rw same stored.variables in
       stacks-next is_var hs old.entries (statements_of old) e s are size new es T x.at (latest_of Var x.kind x hs) place next (latest-var hs old.entries (statements_of old) e s x size place codes of_kind block are) entries statements
-
-  pub essentials-next : hs ≡ old.essentials → IsNext x.at (latest_of Ess x.kind x hs) hs new → AreStacks is_essential new (map long_entry es) T
-  essentials-next same next =
-      let are : AreStacks is_essential hs (map long_entry old.entries) (statements_of old) = rw same stored.essentials in
-      let many = length-map old.entries long_entry in
-      stacks-next is_essential hs (map long_entry old.entries) (statements_of old) (long_entry e) s are (many ∙ size) new (map long_entry es) T x.at (latest_of Ess x.kind x hs) (omega (arith, place, many)) next
-      (latest-ess hs old.entries (statements_of old) e s x size place codes of_kind block are) (ap (map long_entry) entries ∙ map-append long_entry old.entries (e ∷ [])) statements
 
 -- no statements
 pub stacks-none : (kind : Stmt → Bool) → AreStacks kind [] [] []

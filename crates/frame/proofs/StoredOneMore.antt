@@ -1,5 +1,5 @@
 -- The parts of the storage after a statement is appended: numbers, labels, positions, symbols.
-use Rattle.frame.proofs.Words.{list_any, sym, ◌∙◌, ap, subst, arith, inl, inr, add-zero, ◌≡◌, ℕ, zero, suc, ◌+◌, ◌-◌, ◌<◌, ◌≤◌, Bool, true, false, cond, not, ◌&&◌, ◌||◌, ◌==◌, nat_lt, ◌⊎◌, List, [], ◌∷◌, ◌++◌, length, map, take, slice_get, Option, Some, None, refl, and-false, take-append-le, cases_lt, ltb-true, take-append_seam, Name, Stmt, Database, before, label_of, stays_open, is_close, is_open, count, IsLegal, G10, name_at, decode, AreBelow, LastActive, Kind, Float, Ess, Axiom, Prove, Entry, LastDeclarations, stmt_by, stmt_of, positions_from, option_position, AreAllLegal, last_declarations_of, AreGivenBy, is_float_with, is_var_with, second_is, is_float_kind, is_var_kind, last_from, IsLabelBelow, HasTwoSymbolsIfFloat, AreNumbered, AreUndeclared, AreUndeclaredAfter, undeclared_symbol, AreKept, Extends, get-more, place, stays_open-append, below-deficit, no_deficit, deficit-close, count-left_open, get-push}
+use Rattle.frame.proofs.Words.{sym, ◌∙◌, ap, subst, arith, inl, inr, add-zero, ◌≡◌, ℕ, zero, suc, ◌+◌, ◌-◌, ◌<◌, ◌≤◌, Bool, true, false, cond, not, ◌&&◌, nat_lt, ◌⊎◌, List, [], ◌∷◌, ◌++◌, length, map, take, slice_get, Option, Some, None, refl, and-false, take-append-le, cases_lt, ltb-true, take-append_seam, Name, Stmt, Database, before, label_of, stays_open, is_close, is_open, count, IsLegal, G10, name_at, decode, AreBelow, LastActive, Kind, Float, Ess, Axiom, Prove, Entry, stmt_by, stmt_of, positions_from, option_position, AreAllLegal, last_float, AreGivenBy, is_float_with, second_is, is_float_kind, last_from, IsLabelBelow, HasTwoSymbolsIfFloat, AreNumbered, AreZero, AreZeroAfter, AreKept, Extends, get-more, place, stays_open-append, below-deficit, no_deficit, deficit-close, count-left_open, get-push}
 use Rattle.frame.proofs.SymbolNumberLemmas.{decode-extends, name_at-extends, below-more}
 use Rattle.mm_read.specs.declared.stmt.Stmt.TheVariants as stmt
 
@@ -77,14 +77,6 @@ above-second : (n c : ℕ) (codes : List ℕ) → AreBelow n codes → n ≤ c �
 above-second n c (x ∷ y ∷ codes) h le = let a = h.1.0 in let l : y < c = omega (arith, a, le) in grind (arith, l)
 above-second n c codes h le = refl
 
-above-any : (n c : ℕ) (codes : List ℕ) → AreBelow n codes → n ≤ c → list_any (λ x. c == x) codes ≡ false
-above-any n c [] h le = refl
-above-any n c (x ∷ codes) h le =
-    let a = h.0 in
-    let l : x < c = omega (arith, a, le) in
-    let f : (c == x) ≡ false = grind (arith, l) in
-    ap (λ b. b || list_any (λ y. c == y) codes) f ∙ above-any n c codes h.1 le
-
 none-from : (test : Entry → Bool) (found at : ℕ) (es : List Entry) → ((e : Entry) (k : ℕ) → slice_get es k ≡ Some e → test e ≡ false) → last_from test found at es ≡ found
 none-from test found at [] h = refl
 none-from test found at (e ∷ es) h =
@@ -95,30 +87,27 @@ numbered-at n m [] h k e g = cc
 numbered-at n m (d ∷ es) h zero e g = let same : d ≡ e = cc in subst (λ x. AreBelow n x.symbols) same h.0
 numbered-at n m (d ∷ es) h (suc k) e g = numbered-at n m es h.2 k e g
 
-pub last_declarations_of-above : (n m : ℕ) (es : List Entry) (c : ℕ) → AreNumbered n m es → n ≤ c → last_declarations_of es c ≡ undeclared_symbol
-last_declarations_of-above n m es c h le =
-    rw (
-      none-from (is_float_with c) 0 1 es (λ e k g. ap (λ b. is_float_kind e.kind && b) (above-second n c e.symbols (numbered-at n m es h k e g) le) ∙ and-false (is_float_kind e.kind)),
-      none-from (is_var_with c) 0 1 es (λ e k g. ap (λ b. is_var_kind e.kind && b) (above-any n c e.symbols (numbered-at n m es h k e g) le) ∙ and-false (is_var_kind e.kind)),
-    ) refl
+pub last_float-above : (n m : ℕ) (es : List Entry) (c : ℕ) → AreNumbered n m es → n ≤ c → last_float es c ≡ 0
+last_float-above n m es c h le =
+    none-from (is_float_with c) 0 1 es (λ e k g. ap (λ b. is_float_kind e.kind && b) (above-second n c e.symbols (numbered-at n m es h k e g) le) ∙ and-false (is_float_kind e.kind))
 
-get-zero : (old more : List LastDeclarations) (c : ℕ) → AreUndeclared more → length old ≤ c → c < length (old ++ more) → slice_get (old ++ more) c ≡ Some undeclared_symbol
+get-zero : (old more : List ℕ) (c : ℕ) → AreZero more → length old ≤ c → c < length (old ++ more) → slice_get (old ++ more) c ≡ Some 0
 get-zero [] [] c z le lt = absurd (omega (arith, lt))
 get-zero [] (x ∷ more) zero z le lt = ap Some z.0
 get-zero [] (x ∷ more) (suc c) z le lt = get-zero [] more c z.1 (omega arith) (omega (arith, lt))
 get-zero (x ∷ old) more zero z le lt = absurd (omega (arith, le))
 get-zero (x ∷ old) more (suc c) z le lt = get-zero old more c z (omega (arith, le)) (omega (arith, lt))
 
--- the symbols, followed by symbols that nothing declares, have the same declarations
-pub still-reads : (names labels : List Name) (positions : List ℕ) (symbols : List LastDeclarations) (replaced : List ℕ) (entries : List Entry) (last_active : LastActive) (between : List LastDeclarations)
-    → AreKept names labels positions symbols replaced entries last_active → AreUndeclaredAfter symbols between → AreGivenBy between (last_declarations_of entries)
-still-reads names labels positions symbols replaced entries last_active between k z c lt = by (cases_lt c (length names))
+-- new symbols have no `$f`
+pub still-reads : (names labels : List Name) (positions floats replaced : List ℕ) (entries : List Entry) (last_active : LastActive) (between : List ℕ)
+    → AreKept names labels positions floats replaced entries last_active → AreZeroAfter floats between → AreGivenBy between (last_float entries)
+still-reads names labels positions floats replaced entries last_active between k z c lt = by (cases_lt c (length names))
   where
-    by : (c < length names) ⊎ (length names ≤ c) → slice_get between c ≡ Some (last_declarations_of entries c)
-    by (inl l) = ap (λ r. slice_get r c) z.1 ∙ get-more symbols z.0 c (last_declarations_of entries c) (k.symbols_kept c l)
+    by : (c < length names) ⊎ (length names ≤ c) → slice_get between c ≡ Some (last_float entries c)
+    by (inl l) = ap (λ r. slice_get r c) z.1 ∙ get-more floats z.0 c (last_float entries c) (k.floats_kept c l)
     by (inr ge) =
-        let size : length between ≡ length (symbols ++ z.0) = ap length z.1 in
+        let size : length between ≡ length (floats ++ z.0) = ap length z.1 in
         let a = k.count in
         ap (λ r. slice_get r c) z.1
-        ∙ (get-zero symbols z.0 c z.2 (omega (arith, a, ge)) (omega (arith, size, lt))
-        ∙ ap Some (sym (last_declarations_of-above (length names) (length labels) entries c k.coded ge)))
+        ∙ (get-zero floats z.0 c z.2 (omega (arith, a, ge)) (omega (arith, size, lt))
+        ∙ ap Some (sym (last_float-above (length names) (length labels) entries c k.coded ge)))

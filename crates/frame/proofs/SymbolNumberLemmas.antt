@@ -1,15 +1,15 @@
 -- Numbers and their names, as names and symbols are appended.
-use Rattle.frame.proofs.Words.{replicate, take_all, zero, ◌∙◌, ap, arith, ◌≡◌, ℕ, ◌<◌, ◌≤◌, List, [], ◌∷◌, ◌++◌, length, take, refl, suc, take-append_seam, Name, name_at, decode, AreBelow, LastDeclarations, Extends, undeclared_symbol, AreUndeclared, AreUndeclaredAfter, name_at-more}
+use Rattle.frame.proofs.Words.{replicate, take_all, zero, ◌∙◌, ap, arith, ◌≡◌, ℕ, ◌<◌, ◌≤◌, List, [], ◌∷◌, ◌++◌, length, take, refl, suc, take-append_seam, Name, name_at, decode, AreBelow, Extends, AreZero, AreZeroAfter, name_at-more}
 
 -- a list that is truncated to its old length is the old list
 pub take-extends : {A : Type 0} (a b : List A) → Extends a b → take (length a) b ≡ a
 take-extends a b p = ap (take (length a)) p.1 ∙ take-append_seam a p.0
 
--- symbols that nothing declares are appended
-pub zero-more : (a b : List LastDeclarations) (n m : ℕ) → length a ≤ n → b ≡ take n a ++ replicate m undeclared_symbol → AreUndeclaredAfter a b
-zero-more a b n m le is = (replicate m undeclared_symbol, is ∙ ap (λ r. r ++ replicate m undeclared_symbol) (take_all n a le), zeros m)
+-- zeros are appended
+pub zero-more : (a b : List ℕ) (n m : ℕ) → length a ≤ n → b ≡ take n a ++ replicate m 0 → AreZeroAfter a b
+zero-more a b n m le is = (replicate m 0, is ∙ ap (λ r. r ++ replicate m 0) (take_all n a le), zeros m)
   where
-    zeros : (m : ℕ) → AreUndeclared (replicate m undeclared_symbol)
+    zeros : (m : ℕ) → AreZero (replicate m 0)
     zeros zero = tt
     zeros (suc m) = (refl, zeros m)
 

@@ -4,16 +4,12 @@ pub use Rattle.entries.proofs.AddedStatement.{ok-weaker, on-err}
 pub use Rattle.entries.proofs.BufferPlaceLemmas.{get-push, take-get}
 pub use Rattle.entries.proofs.HistoryLemmas.{changed-twice, kept-changed, stack-changed, stack-kept, stack-later, until-changed}
 pub use Rattle.entries.proofs.LogLemmas.{until-kept, until-later}
-pub use Rattle.entries.proofs.PositionSetLemmas.{above-all, ascends-with, count-above, count-all, count-get, count-grows, count-less, count-with, get-count, has-above, has-get, has-with, length-with}
-pub use Rattle.entries.proofs.SetNodeLemmas.{cut-back, set_at-extends}
-pub use Rattle.entries.proofs.SpanLemmas.{cut-more, cut-push, extends-length, extends-refl, extends-take, extends-trans, range-behind, spans-push, spans-reverse}
+pub use Rattle.entries.proofs.SpanLemmas.{cut-more, cut-push, extends-length, extends-refl, extends-take, range-behind, spans-push, spans-reverse}
 pub use Rattle.entries.proofs.StatementRecordLemmas.{get-last, get-more}
-pub use Rattle.entries.specs.Entries.{IsWholeView, Assertion, Entry, assertion_of, entry_by, no_parts, entry_from_ref}
+pub use Rattle.entries.specs.Entries.{IsWholeView, Assertion, Entry, entry_by, entry_from_ref}
 pub use Rattle.entries.specs.Histories.{AreKeptUntil, AreSame, AreUntil, IsUntil, StackVersion, reverted, history, kept_until, pushed, stack_at}
 pub use Rattle.entries.specs.Hypotheses.{decoded_hypothesis}
-pub use Rattle.entries.specs.PositionSets.{AreAbove, Ascends, IsSet, count_below, has_position, set_at, with_position}
 pub use Rattle.entries.specs.Stored.Spans.{AreSpansIn, Extends, cut}
-pub use Rattle.entries.specs.SymbolPlaces.{ArePlacesOf, SymbolGroups, without_float}
 pub use Rattle.entries.specs.declared.assertion_view.AssertionView.{AssertionView}
 pub use Rattle.entries.specs.declared.assertion_view.Hypothesis.{Hypothesis}
 pub use Rattle.entries.specs.declared.buffer_part.BufferPart.{BufferPart}
@@ -23,37 +19,28 @@ pub use Rattle.entries.specs.declared.kind.Kind.TheVariants.{Axiom, Disj, Ess, F
 pub use Rattle.entries.specs.declared.last_active.LastActive.{LastActive}
 pub use Rattle.frame.specs.AssertionView.{AreListsOf, AreNumberedHypotheses, IsStatementOf, IsNumberedHypothesis, IsTypecode, IsViewOf, typecode_of}
 pub use Rattle.frame.specs.AtPosition.{HasLegalProperties, ArePositions, HasLabelsOnce, IsPosition, HasSingleResults}
+pub use Rattle.frame.specs.Ascending.{AreAbove, Ascends}
 pub use Rattle.frame.specs.Below.{AllBelow, AreBelow}
 pub use Rattle.frame.specs.WellTyped.{HasFloat, IsWellTyped, BeginsWithNoVariable}
 pub use Rattle.frame.specs.Citations.{Carries, AreImagesOfVariables, expr_at, is_hypothesis_kind, premises}
 pub use Rattle.frame.specs.Disjoint.{are_disjoint, is_pair_disjoint, is_symbol_disjoint, is_variable_disjoint}
-pub use Rattle.frame.specs.ExprPlaces.{AreExprPlaces}
 pub use Rattle.frame.specs.FrameOf.{HasAssertion, frame_of, active_disjoint_lists, hypotheses, is_hypothesis, is_mandatory, is_pair, is_used, mandatory_groups, has_two_or_more}
 pub use Rattle.frame.specs.LastActive.{actives, actives_from, is_disj, is_var, last_active_of, last_active_of_kind, last_position}
 pub use Rattle.frame.specs.Laws.{GroupsHaveMandatoryPairs}
 pub use Rattle.frame.specs.ListsOfPairs.{AreListsOfPairs, have_both}
 pub use Rattle.frame.specs.Parts.{FrameParts, Numbered}
 pub use Rattle.frame.specs.Stored.AssertionParts.{IsKeptAs, floats_in, groups_by, has_parts, has_two_or_more_items, is_float_in, is_typed, is_typed_by, kept_with, entry_hypothesis, option_symbols, recorded_in, hypothesis_at, hypothesis_by, symbols_at, typecode_at, typed}
-pub use Rattle.frame.specs.Stored.Counts.{AreNumbered, AreUndeclared, AreUndeclaredAfter, HasMoreNames, HasRoom, HasTwoSymbolsIfFloat, HasMoreAtEnd, IsLabelBelow, IsPlain, KeepsCounts, kind_of, next_last_active, with_declared, with_entry, undeclared_symbol}
+pub use Rattle.frame.specs.Stored.Counts.{AreNumbered, AreZero, AreZeroAfter, HasMoreNames, HasRoom, HasTwoSymbolsIfFloat, HasMoreAtEnd, IsLabelBelow, IsPlain, KeepsCounts, kind_of, next_last_active}
 pub use Rattle.frame.specs.Stored.Ends.{AreBlocks, AreEnds, AreBlockEnds, end_from, end_of, with_end}
-pub use Rattle.frame.specs.Stored.EntryMeanings.{AreAllLegal, AreGivenBy, declared_by, is_var_with, is_float_with, is_float_kind, is_var_kind, labels_in, last_from, last_of, last_where, names_in, option_position, positions_from, replaced_after, replaced_by, replaced_of, second_is, statements_of, stmt_by, stmt_of, last_declarations_of, with_last}
-pub use Rattle.frame.specs.Stored.EssentialSets.{AreFrames, AreEssentialSets, IsSetFromEssentials, IsKeptSet}
-pub use Rattle.frame.specs.Stored.KeptSets.{AreAmong, index_of, kept_set, option_set}
-pub use Rattle.frame.specs.Stored.Sparse.{AreAmongBy, IsCountBy, IsCutBy, RiseBy, item_by}
-pub use Rattle.frame.specs.Stored.Hypotheses.{AreCollected, AreDescribed, AreFloats, AreHypotheses, HasLookedUpFloats, ListsExactly, AreWithEssentials, HasMore, In, IsFilledFrom, IsFloatOf, IsFromEssentials, IsKeptWith, HoldsForSome, IsFloatOfSome, is_hypothesis_entry, kept_at, option_kept}
+pub use Rattle.frame.specs.Stored.EntryMeanings.{AreAllLegal, AreGivenBy, AreRestored, IsBelowIfSome, is_float_with, is_float_kind, labels_in, last_float, last_from, last_where, names_in, option_float, option_position, positions_from, replaced_after, replaced_of, second_is, statements_of, stmt_by, stmt_of, typed_by, with_float}
+pub use Rattle.frame.specs.Stored.Hypotheses.{AreCollected, AreFloats, AreHypotheses, HasLookedUpFloats, ListsExactly, AreWithEssentials, HasMore, In, IsFilledFrom, IsFloatOf, IsFromEssentials, IsKeptWith, HoldsForSome, IsFloatOfSome, is_hypothesis_entry, kept_at, option_kept}
 pub use Rattle.frame.specs.Stored.Labels.{is_labelled_kind}
-pub use Rattle.frame.specs.Stored.LongExpressions.{AreLongIn, IsLongIn}
-pub use Rattle.frame.specs.Stored.Merged.{AreMerged, AreMissing, with_each}
 pub use Rattle.frame.specs.Stored.Naming.{is_kind_of_symbol, naming_from, naming_of}
 pub use Rattle.frame.specs.Stored.OneFrame.{AreMandatory, among, is_needed, groups_among, is_in_essential, mandatory_positions}
-pub use Rattle.frame.specs.Stored.PairSearch.{AreSearched, AreRemaining, are_pair}
-pub use Rattle.frame.specs.Stored.Stacks.{AreChangedBy, AreOfKind, AreStacks, IsNext, IsOfKind, KeepsUntil, codes_by, entries_by, has_code, positions_with, having_after, kind_test, last_by_kind, latest_of, long_codes, long_entry, opening, with_top}
+pub use Rattle.frame.specs.Stored.Stacks.{AreChangedBy, AreOfKind, AreStacks, IsNext, IsOfKind, KeepsUntil, has_code, positions_with, having_after, kind_test, last_by_kind, latest_of, opening, with_top}
 pub use Rattle.frame.specs.Stored.Whole.{AreKept, ArePartsFor, AreStored, IsEntryHeader, IsKeptOf, AreStacksOfStorage}
-pub use Rattle.frame.specs.declared.essential_sets.EssentialSets.{EssentialSets}
-pub use Rattle.frame.specs.declared.kept_sets.KeptSet.{KeptSet}
 pub use Rattle.frame.specs.declared.stacks.NextStatement.{NextStatement}
 pub use Rattle.frame.specs.declared.storage.Storage.{Storage}
-pub use Rattle.frame.specs.declared.storage.LastDeclarations.{LastDeclarations}
 pub use Rattle.mm_lex.specs.Alphabet.{Name, has_name, name_eq}
 pub use Rattle.mm_lex.specs.Words.{AreWords}
 pub use Rattle.mm_read.specs.Statements.{Database, Expr}
@@ -84,28 +71,25 @@ pub use Rattle.scope.specs.declared.numbering.NameKind.{NameKind}
 pub use Rattle.scope.specs.declared.numbering.NameKind.TheVariants.{Constant}
 pub use Rattle.scope.specs.declared.rule.Rule.TheVariants.{G1, G10, G2, G3, G4, G5, G6, G7, G8, G9}
 pub use Rattle.scope.specs.declared.frame_statements.FrameStatement.{FrameStatement}
-pub use Rattle.std.proofs.Common.{Bool, Bor, Err, IfNone, IfSome, IsTrue, List, None, Ok, OnErr, OnOk, Option, Result, Some, [], add-zero, ap, append-nil, append_assoc, arith, cond, drop, eqb, false, filter, get_or, get_or-set_same, get_or-take, if◌then◌else◌, inl, inr, is_some, le-leb, length, length-append, length-drop, length-set, length-take, length-take-le, lt-ltb, map, nat_cmp, nat_eq, nat_le, nat_lt, not, option_map, refl, replicate, reverse, rules, slice_get, slice_index_or, slice_range, slice_set, subst, suc, sym, take, take-append-drop, take-take, take_all, true, true≢false, zero, ℕ, ⊎_elim, ◌%◌, ◌&&◌, ◌++◌, ◌+◌, ◌-◌, ◌<◌, ◌==◌, ◌||◌, ◌∙◌, ◌∷◌, ◌≡◌, ◌≢◌, ◌≤◌, ◌⊎◌}
+pub use Rattle.std.proofs.Common.{Bool, Bor, Err, IfNone, IfSome, IsTrue, List, None, Ok, OnErr, OnOk, Option, Result, Some, [], add-zero, ap, append-nil, append_assoc, arith, cond, drop, eqb, false, filter, get_or, get_or-take, inl, inr, is_some, le-leb, length, length-append, length-drop, length-set, length-take, length-take-le, lt-ltb, map, nat_cmp, nat_eq, nat_le, nat_lt, not, option_map, refl, replicate, reverse, rules, slice_get, slice_range, slice_set, subst, suc, sym, take, take-append-drop, take-take, take_all, true, true≢false, zero, ℕ, ⊎_elim, ◌&&◌, ◌++◌, ◌+◌, ◌-◌, ◌<◌, ◌==◌, ◌||◌, ◌∙◌, ◌∷◌, ◌≡◌, ◌≢◌, ◌≤◌, ◌⊎◌}
 pub use Rattle.std.proofs.Math.Bool.{and-false, and-or_distrib_left, and_comm, or-false, or-true, or_comm}
 pub use Rattle.std.proofs.Math.ListN.{get_or-append}
 pub use Rattle.std.proofs.Math.Logic.{⊎_map}
-pub use Rattle.std.proofs.Math.Seq.{drop-append_seam, get_or-append_seam, take-append-add, take-append_seam, take-length}
-pub use Rattle.std.proofs.lemmas.Bool.{and_from, and_parts, and_right, both_ways, both_ways as not_both, cases_Bool, cases_eq, cases_lt, cond_both, eqb-true, false_from_ne_true, false≢true, leb-true, ltb-true, not-false, not-true, not_from_false, or_cases, or_from, or_left, or_parts, or_right, true_from_ne_false}
-pub use Rattle.std.proofs.lemmas.Bool.Decides.{nat_tests}
+pub use Rattle.std.proofs.Math.Seq.{get_or-append_seam, take-append-add, take-append_seam, take-length}
+pub use Rattle.std.proofs.lemmas.Bool.{and_from, and_parts, and_right, both_ways, both_ways as not_both, cases_eq, cases_lt, false_from_ne_true, false≢true, leb-true, ltb-true, not-false, or_cases, or_from, or_left, or_parts, or_right, true_from_ne_false}
 pub use Rattle.std.proofs.lemmas.Grind.{get_or-set_at}
-pub use Rattle.std.proofs.lemmas.List.{drop-append-le, drop-take, drop_all, drop_more, get_or-map, get_or-set_other, get_or_append_left, get_or_at, get_or_past, get_or_read, length-map, map-append, map_push, nil_from_length, reverse-append, take-append-le, take-map, take_at, take_more}
-pub use Rattle.std.proofs.lemmas.List.Elements.{All-cons, All-filter, All-from_get_or, All-get_or, All-head, All-map, All-nil, All-push, All-tail, All-weaker, filter-append}
+pub use Rattle.std.proofs.lemmas.List.{drop-append-le, drop-take, drop_all, drop_more, get_or-set_other, get_or_append_left, get_or_at, get_or_past, get_or_read, length-map, map-append, map_push, nil_from_length, reverse-append, reverse-reverse, take-append-le, take-map, take_at}
+pub use Rattle.std.proofs.lemmas.List.Elements.{All-filter, All-from_get_or, All-get_or, All-map, filter-append}
 pub use Rattle.std.proofs.lemmas.List.Filters.{dedup_is}
 pub use Rattle.std.proofs.lemmas.List.Folds.{Any-from_list_any, list_all-map, list_all_at, list_all_more, list_any-append, list_any-from_Any, list_any_at, list_any_more}
 pub use Rattle.std.proofs.lemmas.List.Kept.{Contains-dedup_nat, Contains-from_dedup}
-pub use Rattle.std.proofs.lemmas.List.Sorted.{Contains-permutation, IsPermutation-sym, searched}
+pub use Rattle.std.proofs.lemmas.List.Sorted.{Contains-permutation, IsPermutation-sym}
 pub use Rattle.std.proofs.lemmas.Map.Keys.{IsStrictlyIncreasing-dedup}
 pub use Rattle.std.proofs.lemmas.Map.Views.{any-filter_same}
-pub use Rattle.std.proofs.lemmas.Option.{get_or_from_slice_get, same_Some, slice_get-get_or, slice_get-map, slice_get_cases, slice_get_read, slice_get_within}
-pub use Rattle.std.proofs.lemmas.Result.{IfOk-weaker}
+pub use Rattle.std.proofs.lemmas.Option.{get_or_from_slice_get, same_Some, slice_get-get_or, slice_get-map, slice_get_read, slice_get_within}
 pub use Rattle.std.proofs.lemmas.Simd.{map-map}
 pub use Rattle.std.proofs.lemmas.Slice.Eq.{bytes_eq-Decides}
 pub use Rattle.std.specs.List.{All, Contains, dedup, find, flat_map, list_all, list_any, position_or_len}
 pub use Rattle.std.specs.List.Sorted.{IsPermutation, IsSorted, IsStrictlyIncreasing}
-pub use Rattle.std.specs.Map.{lookup}
-pub use Rattle.std.specs.Prelude.{MatchResult, codes, is_ok, max, ◌^◌}
+pub use Rattle.std.specs.Prelude.{codes, max}
 pub use mathlib.Core.Path.{fun_ext}

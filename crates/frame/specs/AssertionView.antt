@@ -1,11 +1,11 @@
 -- The parts of an assertion by numbers: each mandatory hypothesis has its typecode and one number.
 -- Metamath, 4.2.6: a citation of an assertion needs results for its mandatory hypotheses.
 -- The code keeps these parts with the assertion; the expression of a `$e` is read from the `$e`.
-use Rattle.std.specs.Prelude.{◌≡◌, ℕ, ◌<◌, ◌==◌, Bool, false, ◌&&◌, List, [], ◌∷◌, length, map, Some}
-use Rattle.frame.specs.Words.{list_any, Name, Stmt, Expr, Database, stmt_at, before, expr_of, name_at, decode, Hypothesis, Assertion, Essential, AssertionView, NO_TYPECODE}
+use Rattle.std.specs.Prelude.{◌≡◌, ℕ, ◌<◌, List, [], ◌∷◌, length, map, Some}
+use Rattle.frame.specs.Words.{Name, Stmt, Expr, Database, stmt_at, before, expr_of, name_at, decode, Hypothesis, Assertion, Essential, AssertionView, NO_TYPECODE}
 use Rattle.mm_read.specs.declared.stmt.Stmt.TheVariants as stmt
 use Rattle.entries.specs.declared.assertion_view.Hypothesis.TheVariants.{Float}
-use Rattle.frame.specs.FrameOf.{hypotheses, is_mandatory_pair, mandatory_groups}
+use Rattle.frame.specs.FrameOf.{hypotheses, mandatory_groups}
 use Rattle.frame.specs.Below.{AreBelow, AllBelow}
 
 -- the first number of an expression, or `NO_TYPECODE` if it is empty
@@ -53,35 +53,4 @@ pub record IsViewOf (S : Database) (names : List Name) (a : ℕ) (s : Stmt) (c :
   pub conclusion : decode names c.conclusion.now ≡ expr_of s
   pub conclusion_below : AreBelow (length names) c.conclusion.now
   pub groups : map (decode names) c.groups ≡ mandatory_groups (before S a) s
-  pub groups_below : AllBelow (length names) c.groups
-
--- ---- the parts that a citation needs: the groups may be any lists that have exactly the mandatory pairs
-
--- both numbers are in the list
-abbrev pub has_both : ℕ → ℕ → List ℕ → Bool
-has_both x y g = list_any (λ c. c == x) g && list_any (λ c. c == y) g
-
--- two different variables are both in one of the lists exactly if they are a mandatory pair of the
--- assertion s at a
-abbrev pub AreMandatoryPairs : Database → List Name → ℕ → Stmt → List (List ℕ) → Type 0
-AreMandatoryPairs S names a s groups =
-    (x y : ℕ) → x < length names → y < length names → (x == y) ≡ false
-    → list_any (has_both x y) groups ≡ is_mandatory_pair (before S a) s (name_at names x) (name_at names y)
-
--- the assertion s at a can be cited by these lists
-pub record AreCitingListsOf (S : Database) (names : List Name) (a : ℕ) (g : Assertion) (s : Stmt) : Type 0 where
-  pub numbered_hypotheses : AreNumberedHypotheses S names (hypotheses (before S a) s) g.typecodes g.numbered_hypotheses
-  pub pairs : AreMandatoryPairs S names a s g.groups
-  pub groups_below : AllBelow (length names) g.groups
-
--- the assertion at a can be cited by these lists
-abbrev pub AreCitingLists : Database → List Name → ℕ → Assertion → Type 0
-AreCitingLists S names a g = (s : Stmt) → stmt_at S a ≡ Some s → AreCitingListsOf S names a g s
-
--- the assertion s at a can be cited by these parts
-pub record IsCitingView (S : Database) (names : List Name) (a : ℕ) (s : Stmt) (c : AssertionView) : Type 0 where
-  pub numbered_hypotheses : AreNumberedHypotheses S names (hypotheses (before S a) s) c.typecodes.now c.hypotheses
-  pub conclusion : decode names c.conclusion.now ≡ expr_of s
-  pub conclusion_below : AreBelow (length names) c.conclusion.now
-  pub pairs : AreMandatoryPairs S names a s c.groups
   pub groups_below : AllBelow (length names) c.groups

@@ -6,12 +6,10 @@ pub mod Substitution
 pub mod Disjoint
 pub mod Citations
 pub mod Below
+pub mod Ascending
 pub mod AssertionView
-pub mod ExprPlaces
-pub mod LongEssentials
 pub mod WellTyped
 pub mod AtPosition
-pub mod PairFacts
 pub mod LastActive
 pub mod Laws
 pub mod Stored

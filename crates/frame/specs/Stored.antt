@@ -9,13 +9,5 @@ pub mod Labels
 pub mod OneFrame
 pub mod Naming
 pub mod Ends
-pub mod Sparse
-pub mod KeptSets
 pub mod Stacks
-pub mod LongExpressions
 pub mod Whole
-pub mod PairSearch
-pub mod PairLists
-pub mod EssentialSets
-pub mod KeptFacts
-pub mod Merged

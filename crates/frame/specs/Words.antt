@@ -1,10 +1,8 @@
 -- The definitions of the layers below that this crate's definitions use, re-exported from one
 -- place.
-pub use Rattle.entries.specs.Entries.{Assertion, Entry, no_parts}
+pub use Rattle.entries.specs.Entries.{Assertion, Entry}
 pub use Rattle.entries.specs.Histories.{AreUntil, StackVersion, history, kept_until, stack_at}
-pub use Rattle.entries.specs.PositionSets.{Ascends, set_at}
-pub use Rattle.entries.specs.Stored.Spans.{AreSpansIn, Extends, cut}
-pub use Rattle.entries.specs.SymbolPlaces.{ArePlacesOf, SymbolGroups, without_float}
+pub use Rattle.entries.specs.Stored.Spans.{Extends}
 pub use Rattle.entries.specs.declared.assertion_view.AssertionView.{AssertionView}
 pub use Rattle.entries.specs.declared.assertion_view.Hypothesis.{Hypothesis}
 pub use Rattle.entries.specs.declared.assertion_view.Hypothesis.TheVariants.{Essential}
@@ -24,4 +22,4 @@ pub use Rattle.scope.specs.Legal.{IsLegal}
 pub use Rattle.scope.specs.Symbols.{AreVariableNumbers, labels_of, symbols_after, symbols_of}
 pub use Rattle.scope.specs.declared.numbering.NameKind.{NameKind}
 pub use Rattle.scope.specs.declared.frame_statements.FrameStatement.{FrameStatement}
-pub use Rattle.std.specs.List.{All, list_all, list_any}
+pub use Rattle.std.specs.List.{list_all, list_any}

@@ -5,7 +5,6 @@ ghost use Rattle.mm_read.specs.declared.stmt.Stmt.{Stmt as Statement};
 ghost use Rattle.{names.specs.Codes.decode, names.specs.Codes.with_names, scope.specs.Active.expr_of, scope.specs.Active.bare, scope.specs.Stored.SymbolNumbers.AreRecorded, scope.specs.Symbols.symbols_declared_by, scope.specs.Symbols.symbols_in, entries.specs.Hypotheses.decoded_hypothesis, entries.specs.Stored.Spans.cut, entries.specs.Stored.Spans.AreSpansIn, frame.specs.Below.AreBelow, frame.specs.AssertionView.typecode_of, frame.specs.Stored.Whole.AreStored, frame.specs.Stored.Whole.ArePartsFor, frame.specs.Stored.Hypotheses.AreHypotheses, frame.specs.Stored.Hypotheses.IsFilledFrom, frame.specs.Stored.Counts.HasTwoSymbolsIfFloat, frame.specs.Stored.Counts.kind_of, frame.specs.Stored.AssertionParts.hypothesis_at, frame.specs.Stored.AssertionParts.hypothesis_by, frame.specs.Stored.AssertionParts.typecode_at, frame.specs.Stored.AssertionParts.is_typed, frame.specs.Stored.AssertionParts.is_typed_by, frame.specs.Stored.AssertionParts.with_group, std.specs.List.list_any, frame.specs.Stored.AssertionParts.has_parts, frame.specs.Stored.EntryMeanings.names_in, frame.specs.Stored.EntryMeanings.statements_of, frame.specs.FrameOf.hypotheses, frame.specs.Stored.OneFrame.mandatory_positions};
 
 use crate::at_position::last_active_at;
-use crate::essential_sets::EssentialSets;
 use crate::frame_buffers::FrameBuffers;
 use crate::mandatory::{add_essentials, are_few, find_floats};
 use crate::shape::{has_parts, is_essential, kind};
@@ -162,7 +161,6 @@ pub fn fill_from_hypotheses(
 /// Errors: an allocation fails.
 pub fn fill_parts(
     storage: &Storage,
-    essential_sets: &EssentialSets,
     buffers: &mut FrameBuffers,
     stmt: &Stmt,
     recorded: &SymbolNumbers,
@@ -184,7 +182,7 @@ pub fn fill_parts(
         &mut buffers.hypotheses,
         codes,
     )?;
-    if is_essential(stmt) || !are_few(storage, essential_sets, buffers.hypotheses.len()) {
+    if is_essential(stmt) || !are_few(storage) {
         return encode_hypotheses(
             storage,
             &buffers.hypotheses,

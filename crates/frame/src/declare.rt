@@ -1,12 +1,12 @@
-//! Changes the names, the last declarations of symbols, the ends of blocks and the last active
-//! statements for one more statement. Undoes the changes of last declarations and of ends of
-//! blocks; `extend` undoes the others.
-ghost use Rattle.std.specs.Prelude.{◌≡◌, ℕ, ◌+◌, ◌≤◌, ◌==◌, ◌++◌, ◌∷◌, [], length, OnOk, map, take};
-ghost use Rattle.{mm_read.specs.declared.stmt.Stmt.Stmt as Statement, scope.specs.Active.label_of, scope.specs.Declares.IsRecordedBy, scope.specs.Declares.MayDeclare, scope.specs.Declares.declared_with, entries.specs.Stored.Spans.Extends, frame.specs.Below.AreBelow, frame.specs.LastActive.last_active_of, frame.specs.declared.storage.LastDeclarations.LastDeclarations as Declarations, frame.specs.Stored.Whole.AreStored, frame.specs.Stored.EntryMeanings.option_position, frame.specs.Stored.EntryMeanings.statements_of, frame.specs.Stored.EntryMeanings.declared_by, frame.specs.Stored.EntryMeanings.last_of, frame.specs.Stored.EntryMeanings.with_last, frame.specs.Stored.EntryMeanings.AreDeclaredAt, frame.specs.Stored.EntryMeanings.AreGivenBy, frame.specs.Stored.EntryMeanings.replaced_of, frame.specs.Stored.EntryMeanings.last_declarations_of, frame.specs.Stored.Counts.HasMoreNames, frame.specs.Stored.Counts.HasRoom, frame.specs.Stored.Counts.kind_of, frame.specs.Stored.Counts.next_last_active, frame.specs.Stored.Counts.HasTwoSymbolsIfFloat, frame.specs.Stored.Ends.with_end, frame.specs.Stored.Ends.AreBlockEnds};
+//! Changes the names, the last `$f` of symbols, the ends of blocks and the last active statements
+//! for one more statement. Undoes the changes of last `$f` and of ends of blocks; `extend` undoes
+//! the others.
+ghost use Rattle.std.specs.Prelude.{◌≡◌, ℕ, ◌+◌, ◌≤◌, ◌++◌, ◌∷◌, [], length, OnOk, take};
+ghost use Rattle.{mm_read.specs.declared.stmt.Stmt.Stmt as Statement, scope.specs.Active.label_of, scope.specs.Declares.IsRecordedBy, scope.specs.Declares.MayDeclare, scope.specs.Declares.declared_with, entries.specs.Stored.Spans.Extends, frame.specs.Below.AreBelow, frame.specs.LastActive.last_active_of, frame.specs.Stored.Whole.AreStored, frame.specs.Stored.EntryMeanings.option_position, frame.specs.Stored.EntryMeanings.statements_of, frame.specs.Stored.EntryMeanings.typed_by, frame.specs.Stored.EntryMeanings.option_float, frame.specs.Stored.EntryMeanings.AreTypedAt, frame.specs.Stored.EntryMeanings.Restores, frame.specs.Stored.EntryMeanings.IsBelowIfSome, frame.specs.Stored.EntryMeanings.AreGivenBy, frame.specs.Stored.EntryMeanings.replaced_of, frame.specs.Stored.EntryMeanings.last_float, frame.specs.Stored.Counts.HasMoreNames, frame.specs.Stored.Counts.HasRoom, frame.specs.Stored.Counts.kind_of, frame.specs.Stored.Counts.next_last_active, frame.specs.Stored.Counts.HasTwoSymbolsIfFloat, frame.specs.Stored.Ends.with_end, frame.specs.Stored.Ends.AreBlockEnds};
 
 use crate::at_position::last_active_at;
 use crate::shape::{has_label, kind};
-use crate::storage::{LastDeclarations, Storage};
+use crate::storage::Storage;
 use entries::{Kind, LastActive};
 use mm_read::Stmt;
 use scope::{SymbolNumbers, declare_names};
@@ -39,11 +39,7 @@ pub fn declare_next(
     if count >= SYMBOL_NUMBERS_LIMIT {
         return Err(AllocError);
     }
-    let undeclared = LastDeclarations {
-        float: 0,
-        variable: 0,
-    };
-    storage.symbols.resize(count, undeclared)?;
+    storage.floats.resize(count, 0)?;
     if has_label(kind(stmt)) {
         storage.positions.push(storage.entries.len() as u32 + 1)?;
     }
@@ -88,67 +84,58 @@ fn last_active_with(last_active: LastActive, kind: Kind, at: u32) -> LastActive
     last_active
 }
 
-/// Returns the symbols whose last declaration changes with a statement of this kind with these
-/// symbols: the variable of a `$f`, and all symbols of a `$v`.
-pub fn declared(kind: Kind, codes: &[u32]) -> &[u32]
+/// Returns the variable of a `$f` with these symbols.
+pub fn typed(kind: Kind, codes: &[u32]) -> Option<u32>
     requires { HasTwoSymbolsIfFloat kind codes.now }
-    ensures declared { result.now ≡ declared_by kind codes.now }
-    ensures below { (n : ℕ) → AreBelow n codes.now → AreBelow n result.now }
+    ensures typed { result ≡ typed_by kind codes.now }
+    ensures below { (n : ℕ) → AreBelow n codes.now → IsBelowIfSome n result }
 {
     match kind {
-        Kind::Float => &codes[1..],
-        Kind::Var => codes,
-        _ => &[],
+        Kind::Float => Some(codes[1]),
+        _ => None,
     }
 }
 
-/// Returns the last declaration of a symbol by statements of this kind.
-fn last_declaration(symbol: LastDeclarations, kind: Kind) -> usize
-    ensures { result ≡ last_of kind symbol }
-{
-    match kind {
-        Kind::Float => symbol.float,
-        _ => symbol.variable,
-    }
-}
-
-/// Appends the last declarations that a statement of this kind with these declared symbols
-/// replaces, so that they can be restored.
+/// Appends the last `$f` of the variable of the next `$f`, so that it can be restored.
 pub fn record_replaced(
-    symbols: &[LastDeclarations],
-    kind: Kind,
-    declared: &[u32],
-    replaced: &mut Vec<usize>,
+    floats: &[u32],
+    typed: Option<u32>,
+    replaced: &mut Vec<u32>,
 ) -> Result<(), AllocError>
-    requires { AreBelow (length symbols.now) declared.now }
-    ensures recorded { OnOk result ((x : ℕ → Declarations) → AreGivenBy symbols.now x → replaced.new.items ≡ replaced.old.items ++ map (λ c. last_of kind (x c)) declared.now) }
+    requires { IsBelowIfSome (length floats.now) typed }
+    ensures recorded { OnOk result ((x : ℕ → ℕ) → AreGivenBy floats.now x → replaced.new.items ≡ replaced.old.items ++ option_float x typed) }
     ensures after { Extends replaced.old.items replaced.new.items }
 {
-    for code in declared {
-        replaced.push(last_declaration(symbols[*code as usize], kind))?;
+    if let Some(variable) = typed {
+        replaced.push(floats[variable as usize])?;
     }
     Ok(())
 }
 
-/// Records `at` as the last declaration of these symbols by statements of this kind.
-pub fn declare(symbols: &mut Vec<LastDeclarations>, kind: Kind, declared: &[u32], at: usize)
-    requires { AreBelow (length symbols.old.items) declared.now }
-    ensures each { AreDeclaredAt kind (λ c. at) declared.now symbols.old.items symbols.new.items }
-    ensures count { length symbols.new.items ≡ length symbols.old.items }
+/// Records `at` as the last `$f` of the variable.
+pub fn declare(floats: &mut Vec<u32>, typed: Option<u32>, at: u32)
+    requires { IsBelowIfSome (length floats.old.items) typed }
+    ensures each { AreTypedAt typed at floats.old.items floats.new.items }
+    ensures count { length floats.new.items ≡ length floats.old.items }
 {
-    for code in declared {
-        set_last(&mut symbols[*code as usize], kind, at);
+    if let Some(variable) = typed {
+        floats[variable as usize] = at;
     }
 }
 
-/// Records the last declaration of a symbol by statements of this kind.
-fn set_last(symbol: &mut LastDeclarations, kind: Kind, at: usize)
-    ensures { symbol.new ≡ with_last kind at symbol.old }
+/// Restores the last `$f` of the variable to the one that was replaced last.
+fn restore(floats: &mut Vec<u32>, replaced: &mut Vec<u32>, typed: Option<u32>)
+    requires { IsBelowIfSome (length floats.old.items) typed }
+    ensures restored { Restores typed floats.old.items replaced.old.items floats.new.items replaced.new.items }
+    ensures count { length floats.new.items ≡ length floats.old.items }
 {
-    match kind {
-        Kind::Float => symbol.float = at,
-        _ => symbol.variable = at,
-    }
+    let Some(variable) = typed else {
+        return;
+    };
+    let Some(position) = replaced.pop() else {
+        return;
+    };
+    floats[variable as usize] = position;
 }
 
 /// Records `at` as the end of the block that opened at `block`, if a statement of this kind ends a
@@ -162,33 +149,26 @@ pub fn record_end(ends: &mut Vec<u32>, kind: Kind, block: u32, at: u32)
     }
 }
 
-/// Removes the entries after the first `len`, the last one first, and with them their declarations
-/// and the recorded ends of blocks.
+/// Removes the entries after the first `len`, the last one first, and with them what they recorded
+/// as last `$f` and as ends of blocks.
 pub fn remove_entries(storage: &mut Storage, len: usize)
     requires stored { AreStored storage.old }
     requires within { len ≤ length storage.old.entries }
     ensures entries { storage.new.entries ≡ take len storage.old.entries }
-    ensures declared { AreGivenBy storage.new.symbols.items (last_declarations_of storage.new.entries) }
+    ensures declared { AreGivenBy storage.new.floats.items (last_float storage.new.entries) }
     ensures recorded { storage.new.replaced.items ≡ replaced_of storage.new.entries }
     ensures ends { AreBlockEnds storage.new.ends.items (take len (statements_of storage.old)) }
-    ensures count { length storage.new.symbols.items ≡ length storage.old.symbols.items }
+    ensures count { length storage.new.floats.items ≡ length storage.old.floats.items }
     ensures count_ends { length storage.new.ends.items ≡ length storage.old.ends.items }
     ensures names { (storage.new.numbering ≡ storage.old.numbering) × (storage.new.positions ≡ storage.old.positions) }
-    ensures stacks { (storage.new.disjoints ≡ storage.old.disjoints) × (storage.new.variables ≡ storage.old.variables) × (storage.new.essentials ≡ storage.old.essentials) }
+    ensures stacks { (storage.new.disjoints ≡ storage.old.disjoints) × (storage.new.variables ≡ storage.old.variables) }
     ensures last_active { storage.new.last_active ≡ storage.old.last_active }
 {
     while storage.entries.len() > len {
         let last = storage.entries.len() - 1;
         let entry = storage.entries.entry(last);
-        let declared = declared(entry.kind, entry.symbols);
-        let from = storage.replaced.len() - declared.len();
-        restore(
-            &mut storage.symbols,
-            entry.kind,
-            declared,
-            &storage.replaced[from..],
-        );
-        storage.replaced.truncate(from);
+        let typed = typed(entry.kind, entry.symbols);
+        restore(&mut storage.floats, &mut storage.replaced, typed);
         record_end(
             &mut storage.ends,
             entry.kind,
@@ -196,17 +176,5 @@ pub fn remove_entries(storage: &mut Storage, len: usize)
             0,
         );
         storage.entries.truncate(last);
-    }
-}
-
-/// Restores the last declarations that a statement of this kind with these symbols replaced.
-fn restore(symbols: &mut Vec<LastDeclarations>, kind: Kind, declared: &[u32], replaced: &[usize])
-    requires below { AreBelow (length symbols.old.items) declared.now }
-    requires count { length replaced.now ≡ length declared.now }
-    ensures each { (x : ℕ → ℕ) → replaced.now ≡ map x declared.now → AreDeclaredAt kind x declared.now symbols.old.items symbols.new.items }
-    ensures count { length symbols.new.items ≡ length symbols.old.items }
-{
-    for (place, code) in declared.iter().enumerate() {
-        set_last(&mut symbols[*code as usize], kind, replaced[place]);
     }
 }

@@ -1,14 +1,12 @@
 //! Appends a statement to the storage as a whole or not at all, and truncates it to the first
 //! statements.
 ghost use Rattle.std.specs.Prelude.{true, ◌≡◌, ◌++◌, ◌∷◌, [], Some, OnOk, OnErr, take, length, ◌+◌, IfSome, IfErr};
-ghost use Rattle.frame.specs.Stored.EssentialSets.{AreFrames};
 ghost use Rattle.{names.specs.Codes.with_names, scope.specs.Active.bare, scope.specs.Legal.IsLegal, scope.specs.Legal.broken_rule, scope.specs.Stored.SymbolNumbers.AreRecorded, scope.specs.Symbols.symbols_declared_by, scope.specs.Symbols.symbols_in, scope.specs.Symbols.symbols_of, entries.specs.Histories.AreKeptUntil, entries.specs.Histories.AreSame, entries.specs.Stored.Spans.Extends, frame.specs.Stored.Whole.AreStored, frame.specs.Stored.Counts.HasMoreAtEnd, frame.specs.Stored.EntryMeanings.HasVariableNumbers, frame.specs.Stored.EntryMeanings.labels_in, frame.specs.Stored.EntryMeanings.names_in, frame.specs.Stored.EntryMeanings.statements_of};
 
 use crate::assertion_parts::fill_parts;
 use crate::declare::{
-    declare, declare_next, declared, last_active_after, record_end, record_replaced, remove_entries,
+    declare, declare_next, last_active_after, record_end, record_replaced, remove_entries, typed,
 };
-use crate::essential_sets::EssentialSets;
 use crate::frame_buffers::FrameBuffers;
 use crate::frames::Frames;
 use crate::shape::kind;
@@ -27,7 +25,6 @@ use std::alloc::{AllocError, Global};
 fn extend(
     alloc: Global,
     storage: &mut Storage,
-    essential_sets: &EssentialSets,
     buffers: &mut FrameBuffers,
     stmt: &Stmt,
     recorded: &mut SymbolNumbers,
@@ -38,7 +35,6 @@ fn extend(
     ensures stored { OnOk result (AreStored storage.new) }
     ensures added { OnOk result (statements_of storage.new ≡ statements_of storage.old ++ bare stmt.now ∷ []) }
     ensures numbers { OnOk result (HasVariableNumbers storage.old stmt.now storage.new) }
-    ensures more { OnOk result (Extends storage.old.entries storage.new.entries) }
     ensures after { OnErr result (HasMoreAtEnd storage.old storage.new) }
 {
     let at = storage.entries.len() + 1;
@@ -53,13 +49,13 @@ fn extend(
         },
     };
     find_numbers(&storage.numbering, stmt, recorded);
-    fill_parts(storage, essential_sets, buffers, stmt, recorded)?;
+    fill_parts(storage, buffers, stmt, recorded)?;
     declare_next(alloc, storage, stmt, recorded)?;
     let Some(codes) = recorded.numbers() else {
         return Err(AllocError);
     };
-    let declared = declared(kind, codes);
-    record_replaced(&storage.symbols, kind, declared, &mut storage.replaced)?;
+    let typed = typed(kind, codes);
+    record_replaced(&storage.floats, typed, &mut storage.replaced)?;
     storage.ends.push(0)?;
     let next = NextStatement {
         kind,
@@ -70,14 +66,13 @@ fn extend(
     record_active(
         &mut storage.disjoints,
         &mut storage.variables,
-        &mut storage.essentials,
-        storage.entries.list(),
+        &storage.entries,
         &next,
     )?;
     storage.entries.push(header, &buffers.parts(codes))?;
-    declare(&mut storage.symbols, kind, declared, at);
+    declare(&mut storage.floats, typed, next.at);
     let block = storage.last_active.block;
-    record_end(&mut storage.ends, kind, block, at as u32);
+    record_end(&mut storage.ends, kind, block, next.at);
     storage.last_active = last_active;
     Ok(())
 }
@@ -88,7 +83,6 @@ fn extend(
 fn extend_whole(
     alloc: Global,
     storage: &mut Storage,
-    essential_sets: &EssentialSets,
     buffers: &mut FrameBuffers,
     stmt: &Stmt,
     recorded: &mut SymbolNumbers,
@@ -100,44 +94,14 @@ fn extend_whole(
     ensures added { OnOk result (statements_of storage.new ≡ statements_of storage.old ++ bare stmt.now ∷ []) }
     ensures numbers { OnOk result (HasVariableNumbers storage.old stmt.now storage.new) }
     ensures same { OnErr result (statements_of storage.new ≡ statements_of storage.old) }
-    ensures more { OnOk result (Extends storage.old.entries storage.new.entries) }
-    ensures same_entries { OnErr result (storage.new.entries ≡ storage.old.entries) }
 {
     let names = storage.numbering.len();
     let replaced = storage.replaced.len();
-    let result = extend(alloc, storage, essential_sets, buffers, stmt, recorded);
+    let result = extend(alloc, storage, buffers, stmt, recorded);
     if result.is_err() {
         roll_back(storage, names, replaced);
     }
     result
-}
-
-/// Appends the statement, and records the mandatory hypotheses that its active `$e` bring along.
-///
-/// Errors: an allocation fails; everything is as before.
-fn extend_with_sets(
-    alloc: Global,
-    storage: &mut Storage,
-    essential_sets: &mut EssentialSets,
-    buffers: &mut FrameBuffers,
-    stmt: &Stmt,
-    recorded: &mut SymbolNumbers,
-) -> Result<(), AllocError>
-    requires kept { AreFrames storage.old essential_sets.old }
-    requires legal { IsLegal (statements_of storage.old) stmt.now }
-    requires recorded { AreRecorded (with_names (names_in storage.old) (symbols_declared_by stmt.now)) (symbols_in stmt.now) recorded.old }
-    ensures kept { AreFrames storage.new essential_sets.new }
-    ensures added { OnOk result (statements_of storage.new ≡ statements_of storage.old ++ bare stmt.now ∷ []) }
-    ensures numbers { OnOk result (HasVariableNumbers storage.old stmt.now storage.new) }
-    ensures same { OnErr result (statements_of storage.new ≡ statements_of storage.old) }
-{
-    let front = storage.entries.len();
-    extend_whole(alloc, storage, essential_sets, buffers, stmt, recorded)?;
-    let kept = essential_sets.record_set(storage);
-    if kept.is_err() {
-        truncate_storage(storage, front);
-    }
-    kept
 }
 
 /// Truncates the storage to its first `len` statements.
@@ -145,7 +109,6 @@ fn truncate_storage(storage: &mut Storage, len: usize)
     requires stored { AreStored storage.old }
     ensures stored { AreStored storage.new }
     ensures statements { statements_of storage.new ≡ take len (statements_of storage.old) }
-    ensures entries { storage.new.entries ≡ take len storage.old.entries }
     ensures names { Extends (names_in storage.new) (names_in storage.old) }
 {
     if len < storage.entries.len() {
@@ -164,25 +127,23 @@ fn truncate_storage(storage: &mut Storage, len: usize)
 /// `last_active` stay as they are.
 fn roll_back(storage: &mut Storage, names: usize, replaced: usize)
     ensures names { storage.new.numbering ≡ take names storage.old.numbering }
-    ensures symbols { storage.new.symbols.items ≡ take (length (names_in storage.new)) storage.old.symbols.items }
+    ensures floats { storage.new.floats.items ≡ take (length (names_in storage.new)) storage.old.floats.items }
     ensures positions { storage.new.positions.items ≡ take (length (labels_in storage.new)) storage.old.positions.items }
     ensures replaced { storage.new.replaced.items ≡ take replaced storage.old.replaced.items }
     ensures ends { storage.new.ends.items ≡ take (length storage.old.entries) storage.old.ends.items }
     ensures entries { storage.new.entries ≡ storage.old.entries }
     ensures disjoints { AreKeptUntil (length storage.old.entries) storage.old.disjoints storage.new.disjoints }
     ensures variables { AreKeptUntil (length storage.old.entries) storage.old.variables storage.new.variables }
-    ensures essentials { AreKeptUntil (length storage.old.entries) storage.old.essentials storage.new.essentials }
     ensures last_active { storage.new.last_active ≡ storage.old.last_active }
 {
     storage.numbering.truncate(names);
-    storage.symbols.truncate(storage.numbering.symbol_count());
+    storage.floats.truncate(storage.numbering.symbol_count());
     storage.positions.truncate(storage.numbering.label_count());
     storage.replaced.truncate(replaced);
     storage.ends.truncate(storage.entries.len());
     let last = storage.entries.len() as u32;
     storage.disjoints.truncate(last);
     storage.variables.truncate(last);
-    storage.essentials.truncate(last);
 }
 
 /// Frees unused capacity of the lists of the storage, as `entries::give_back` does.
@@ -191,25 +152,23 @@ fn roll_back(storage: &mut Storage, names: usize, replaced: usize)
 fn shrink_lists(alloc: Global, storage: &mut Storage)
     ensures numbering { storage.new.numbering ≡ storage.old.numbering }
     ensures positions { storage.new.positions.items ≡ storage.old.positions.items }
-    ensures symbols { storage.new.symbols.items ≡ storage.old.symbols.items }
+    ensures floats { storage.new.floats.items ≡ storage.old.floats.items }
     ensures replaced { storage.new.replaced.items ≡ storage.old.replaced.items }
     ensures ends { storage.new.ends.items ≡ storage.old.ends.items }
     ensures entries { storage.new.entries ≡ storage.old.entries }
     ensures disjoints { AreSame storage.old.disjoints storage.new.disjoints }
     ensures variables { AreSame storage.old.variables storage.new.variables }
-    ensures essentials { AreSame storage.old.essentials storage.new.essentials }
     ensures last_active { storage.new.last_active ≡ storage.old.last_active }
 {
     storage.numbering.shrink(alloc);
     give_back(&mut storage.positions);
-    give_back(&mut storage.symbols);
+    give_back(&mut storage.floats);
     give_back(&mut storage.replaced);
     give_back(&mut storage.ends);
     storage.entries.shrink();
     let symbols = storage.numbering.symbol_count();
     storage.disjoints.shrink(symbols);
     storage.variables.shrink(symbols);
-    storage.essentials.shrink(symbols);
 }
 
 impl Frames {
@@ -218,10 +177,8 @@ impl Frames {
     /// Errors: an allocation fails, or a number is too large: that of symbols or the position of a
     /// mandatory `$e` from 2^31 on, any other from 2^32 on; everything is as before. One step is
     /// counted, whatever the outcome.
-    /// Cost: the statement's own size, n log n for an expression of n symbols if n is at least
-    /// `LONG_EXPRESSION`; for an assertion also up to 48 hypotheses that the active `$e` bring
-    /// along, and up to 64 active `$d`; for a `$}` the `$d`, `$v` and `$e` that it makes inactive;
-    /// for a `$e` also its `$f`, times a logarithm, or the size of the first set of hypotheses.
+    /// Cost: the statement's own size, and a sort of its `$f`; for an assertion also that of the
+    /// active `$e`, a sort, and up to 64 `$d`; for a `$}` the `$d` and `$v` that it makes inactive.
     pub fn push(&mut self, scope: &Scope, stmt: &Stmt, steps: &mut Steps) -> Result<(), AllocError>
         requires same { scope.now.statements ≡ self.old.statements }
         requires legal { IsLegal scope.now.statements stmt.now }
@@ -235,10 +192,9 @@ impl Frames {
         let _scope = scope;
         self.recorded.forget();
         steps.tick();
-        extend_with_sets(
+        extend_whole(
             self.alloc,
             &mut self.storage,
-            &mut self.essential_sets,
             &mut self.buffers,
             stmt,
             &mut self.recorded,
@@ -278,10 +234,9 @@ impl Frames {
             return Err(rule);
         }
         let front = self.storage.entries.len();
-        extend_with_sets(
+        extend_whole(
             self.alloc,
             &mut self.storage,
-            &mut self.essential_sets,
             &mut self.buffers,
             stmt,
             &mut self.recorded,
@@ -295,20 +250,16 @@ impl Frames {
         accepted.map_err(|_| Rule::Memory)
     }
 
-    /// Truncates to the first `len` statements. If the kept facts on pairs of variables are about
-    /// more statements than these, all of them are discarded.
+    /// Truncates to the first `len` statements.
     ///
     /// Cannot fail. Frees the capacity only of stacks of which little is left; `shrink` frees the
-    /// rest. Cost: the size of the statements that are removed, and the number of facts that are
-    /// discarded.
+    /// rest. Cost: the size of the statements that are removed.
     pub fn shorten(&mut self, len: usize)
         ensures statements { self.new.statements ≡ take len self.old.statements }
         ensures names { Extends self.new.names self.old.names }
         ensures symbols { self.new.names ≡ symbols_of self.new.statements }
     {
         truncate_storage(&mut self.storage, len);
-        self.essential_sets.truncate(len);
-        self.kept_facts.truncate(len);
     }
 
     /// Frees unused capacity: that of each list whose capacity is more than four times its length,
@@ -320,7 +271,6 @@ impl Frames {
         ensures { self.new ≡ self.old }
     {
         shrink_lists(self.alloc, &mut self.storage);
-        self.essential_sets.shrink();
         self.buffers = FrameBuffers::new(self.alloc);
         self.recorded = SymbolNumbers::new(self.alloc);
     }

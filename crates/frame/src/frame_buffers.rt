@@ -1,11 +1,10 @@
 //! Buffers for the parts of an assertion, which are reused.
-ghost use Rattle.std.specs.Prelude.{◌≡◌, ◌++◌, ◌∷◌, [], length, false, OnOk};
+ghost use Rattle.std.specs.Prelude.{◌≡◌, length, false};
 ghost use Rattle.{entries.specs.Entries.AreShapedParts, entries.specs.Entries.assertion_of, entries.specs.Entries.no_parts};
 
-use entries::buffer_part::between;
 use entries::{AssertionParts, BufferPart};
 use scope::Stack;
-use std::alloc::{AllocError, Global};
+use std::alloc::Global;
 use std::marker::Model;
 
 /// The mandatory hypotheses and groups of an assertion, in buffers that are reused for one
@@ -15,8 +14,7 @@ use std::marker::Model;
 /// `entries`).
 #[derive(Drop)]
 pub struct FrameBuffers {
-    /// Whether the parts are whole, as `AssertionParts` says; not set if the groups are made pair
-    /// by pair.
+    /// Whether the parts are whole, as `AssertionParts` says.
     pub(crate) whole: bool,
     /// The symbols whose `$f` were looked up; later the variables of the hypotheses. A buffer only:
     /// contracts do not see it.
@@ -91,32 +89,6 @@ impl FrameBuffers {
         hypotheses
             .saturating_add(groups)
             .saturating_add(self.grouped_variables.len())
-    }
-
-    /// Appends a group of two variables.
-    pub(crate) fn add_pair(&mut self, x: u32, y: u32) -> Result<(), AllocError>
-        ensures groups { OnOk result (self.new.groups ≡ self.old.groups ++ (x ∷ y ∷ []) ∷ []) }
-        ensures hypotheses { self.new.hypotheses ≡ self.old.hypotheses }
-        ensures numbered_hypotheses { self.new.numbered_hypotheses ≡ self.old.numbered_hypotheses }
-        ensures typecodes { self.new.typecodes ≡ self.old.typecodes }
-    {
-        let from = self.grouped_variables.len();
-        self.grouped_variables.push(x)?;
-        self.grouped_variables.push(y)?;
-        let span = between(from, self.grouped_variables.len())?;
-        self.groups.push(span)?;
-        Ok(())
-    }
-
-    /// Removes the groups.
-    pub(crate) fn clear_groups(&mut self)
-        ensures groups { self.new.groups ≡ [] }
-        ensures hypotheses { self.new.hypotheses ≡ self.old.hypotheses }
-        ensures numbered_hypotheses { self.new.numbered_hypotheses ≡ self.old.numbered_hypotheses }
-        ensures typecodes { self.new.typecodes ≡ self.old.typecodes }
-    {
-        self.grouped_variables.clear();
-        self.groups.clear();
     }
 
     /// Empties the buffers, which keep their capacity.

@@ -1,32 +1,21 @@
 //! The statements of a database by position.
 ghost use Rattle.std.specs.Prelude.{◌≡◌, ◌≤◌, ◌<◌, [], true, IfOk, length, Some, option_map, OnOk, IfSome};
-ghost use Rattle.{mm_read.specs.declared.stmt.Stmt.Stmt as Statement, names.specs.Codes.name_at, names.specs.Codes.decode, scope.specs.Active.before, scope.specs.Active.stmt_at, scope.specs.Active.label_of, scope.specs.Active.expr_of, frame.specs.AtPosition.IsPosition, frame.specs.AtPosition.ArePositions, frame.specs.AtPosition.HasLegalProperties, frame.specs.AtPosition.IsMeaning, frame.specs.FrameOf.HasAssertion, frame.specs.FrameOf.hypotheses, frame.specs.AssertionView.AreBuffersOf, frame.specs.AssertionView.AreCitingLists, frame.specs.AssertionView.IsCitingView, frame.specs.AssertionView.IsViewOf, frame.specs.PairFacts.AreFacts, frame.specs.ExprPlaces.AreExprPlaces, frame.specs.Below.AreBelow, frame.specs.LongEssentials.HasConstantsAt, frame.specs.LongEssentials.long_essentials, scope.specs.Active.is_essential};
+ghost use Rattle.{mm_read.specs.declared.stmt.Stmt.Stmt as Statement, names.specs.Codes.name_at, names.specs.Codes.decode, scope.specs.Active.before, scope.specs.Active.stmt_at, scope.specs.Active.label_of, scope.specs.Active.expr_of, frame.specs.AtPosition.IsPosition, frame.specs.AtPosition.ArePositions, frame.specs.AtPosition.HasLegalProperties, frame.specs.AtPosition.IsMeaning, frame.specs.FrameOf.HasAssertion, frame.specs.FrameOf.hypotheses, frame.specs.AssertionView.AreBuffersOf, frame.specs.AssertionView.IsViewOf, frame.specs.Below.AreBelow};
 
 use crate::assertion_parts::fill_from_hypotheses;
-use crate::at_position::{is_active_at, last_active_at};
-use crate::citing_lists::fill_citing_lists;
-use crate::essential_sets::EssentialSets;
+use crate::at_position::is_active_at;
 use crate::frame_buffers::FrameBuffers;
-use crate::kept_facts::KeptFacts;
-use crate::mandatory_view::{MandatoryView, missing};
+use crate::mandatory::add_essentials;
 use crate::meaning::Meaning;
-use crate::pair_facts::PairFacts;
 use crate::pairs::Pairs;
 use crate::shape::has_label;
 use crate::storage::Storage;
-use crate::stored_entries::StoredEntries;
 use crate::symbol_numbers::label_number;
-use entries::{
-    AssertionView, Groups, Histories, Hypotheses, Kind, LastActive, PositionStack, SymbolPlaces,
-};
+use entries::{AssertionView, Entries, Groups, Histories, Hypotheses, Kind, LastActive};
 use mm_lex::Words;
 use scope::{Numbering, SymbolNumbers};
 use std::alloc::{AllocError, Global};
 use std::marker::Model;
-
-/// The largest number of mandatory hypotheses brought along by the active `$e` for which
-/// `mandatory_view` returns `None`.
-const MAX_WITHOUT_VIEW: usize = 64;
 
 /// The statements of a database by position, counted from 1, without their proofs, with their
 /// symbols as numbers.
@@ -38,11 +27,6 @@ pub struct Frames {
     pub(crate) alloc: Global,
     /// The statements.
     pub(crate) storage: Storage,
-    /// For a `$e`, the set of the mandatory hypotheses that the active `$e` up to it bring along,
-    /// if they are many.
-    pub(crate) essential_sets: EssentialSets,
-    /// Facts about pairs of variables, which stay true as statements are added.
-    pub(crate) kept_facts: KeptFacts,
     /// Buffers for the parts of the next assertion.
     pub(crate) buffers: FrameBuffers,
     /// A buffer for the numbers of the symbols of the next statement.
@@ -50,13 +34,13 @@ pub struct Frames {
 }
 
 impl Model for Frames {
-    ghost use Rattle.{frame.specs.Parts.Numbered, frame.specs.Stored.EntryMeanings.numbered, frame.specs.Stored.KeptFacts.AreFramesAndFacts};
+    ghost use Rattle.{frame.specs.Parts.Numbered, frame.specs.Stored.EntryMeanings.numbered, frame.specs.Stored.Whole.AreStored};
 
     ghost Value = { Numbered };
 
     ghost view = { λ a. numbered a.storage };
 
-    ghost invariant = { λ a. AreFramesAndFacts a.storage a.essential_sets a.kept_facts };
+    ghost invariant = { λ a. AreStored a.storage };
 }
 
 impl Frames {
@@ -70,13 +54,12 @@ impl Frames {
             storage: Storage {
                 numbering: Numbering::new(alloc),
                 positions: Vec::new(alloc),
-                symbols: Vec::new(alloc),
+                floats: Vec::new(alloc),
                 replaced: Vec::new(alloc),
                 ends: Vec::new(alloc),
-                entries: StoredEntries::new(alloc),
+                entries: Entries::new(alloc),
                 disjoints: Histories::new(alloc),
                 variables: Histories::new(alloc),
-                essentials: Histories::new(alloc),
                 last_active: LastActive {
                     block: 0,
                     essential: 0,
@@ -84,8 +67,6 @@ impl Frames {
                     disjoint: 0,
                 },
             },
-            essential_sets: EssentialSets::new(alloc),
-            kept_facts: KeptFacts::new(alloc),
             buffers: FrameBuffers::new(alloc),
             recorded: SymbolNumbers::new(alloc),
         }
@@ -149,35 +130,6 @@ impl Frames {
         }
     }
 
-    /// Returns where each symbol of the expression of the statement at a position occurs, or `None`
-    /// if the statement has no expression or one of fewer than `LONG_EXPRESSION` symbols.
-    ///
-    /// Cost: log n for n such expressions.
-    pub fn places(&self, at: usize) -> Option<&SymbolPlaces>
-        requires { (1 ≤ at) × (at ≤ length self.now.statements) }
-        ensures places { (s : Statement) → stmt_at self.now.statements at ≡ Some s → IfSome result (λ places. AreExprPlaces self.now.names (expr_of s) places.now) }
-        ensures constants { (s : Statement) → stmt_at self.now.statements at ≡ Some s → is_essential s ≡ true → IfSome result (λ places. HasConstantsAt self.now at s places.now) }
-    {
-        let entry = self.storage.entries.entry(at - 1);
-        if has_label(entry.kind) {
-            self.storage.entries.places(at - 1)
-        } else {
-            None
-        }
-    }
-
-    /// Returns the positions of those mandatory `$e` of the assertion at a position that have x and
-    /// at least `LONG_EXPRESSION` symbols, from the last one back.
-    ///
-    /// Cost: a binary search.
-    pub fn long_essentials(&self, x: u32, a: usize) -> PositionStack<'_>
-        requires named { x < length self.now.names }
-        requires assertion { (s : Statement) × HasAssertion self.now.statements a s }
-        ensures { (s : Statement) → stmt_at self.now.statements a ≡ Some s → result ≡ long_essentials self.now.statements a s (name_at self.now.names x) }
-    {
-        self.storage.essentials.stack(x, a)
-    }
-
     /// Returns what a citation of the statement at `i` means at `at`.
     ///
     /// Cost: a constant.
@@ -213,7 +165,6 @@ impl Frames {
     {
         Pairs {
             storage: &self.storage,
-            facts: &self.kept_facts.facts,
             at,
         }
     }
@@ -263,59 +214,11 @@ impl Frames {
         }
     }
 
-    /// Fills the buffers with lists by which the assertion at a position can be cited. Its disjoint
-    /// variables are searched for pair by pair if that costs less than going through the active
-    /// `$d`.
-    ///
-    /// Errors: an allocation fails. Cost: the size of its hypotheses, which are sorted, and a
-    /// constant times the cheaper of two ways. By `$d`: the symbols of the active `$d`. By pairs:
-    /// for each pair of its variables about 64 `$d`, and the `$d` that no recorded search for this
-    /// pair has passed. Searches are recorded in `facts` and in the frames.
-    pub fn fill_for_citing(
-        &self,
-        a: usize,
-        facts: &mut PairFacts,
-        buffers: &mut FrameBuffers,
-    ) -> Result<(), AllocError>
-        requires assertion { (s : Statement) × HasAssertion self.now.statements a s }
-        requires facts { AreFacts self.now facts.old }
-        ensures facts { AreFacts self.now facts.new }
-        ensures lists { OnOk result (AreCitingLists self.now.statements self.now.names a buffers.new) }
-    {
-        buffers.clear();
-        self.mandatory(a, &mut buffers.hypotheses)?;
-        fill_citing_lists(
-            self.alloc,
-            &self.storage,
-            &self.kept_facts.facts,
-            a,
-            facts,
-            buffers,
-        )
-    }
-
-    /// Returns the parts by which the assertion at a position can be cited, from the buffers that
-    /// `fill_for_citing` filled for it.
-    ///
-    /// Cost: a constant.
-    pub fn citing_view<'a>(&'a self, a: usize, buffers: &'a FrameBuffers) -> AssertionView<'a>
-        requires assertion { (s : Statement) × HasAssertion self.now.statements a s }
-        requires lists { AreCitingLists self.now.statements self.now.names a buffers.now }
-        ensures { (s : Statement) → stmt_at self.now.statements a ≡ Some s → IsCitingView self.now.statements self.now.names a s result }
-    {
-        AssertionView {
-            typecodes: &buffers.typecodes,
-            hypotheses: Hypotheses::new(&buffers.numbered_hypotheses),
-            conclusion: self.expr(a),
-            groups: Groups::new(&buffers.groups, &buffers.grouped_variables),
-        }
-    }
-
     /// Appends the positions of the mandatory hypotheses of the assertion at a position, in order,
     /// to an empty list.
     ///
-    /// Errors: an allocation fails. Cost: their number, if all are kept with the assertion; else n
-    /// log n for n of them, or a walk over the active `$e` if these bring along few.
+    /// Errors: an allocation fails. Cost: their number, if all are kept with the assertion; else
+    /// the size of the active `$e`, and a sort.
     pub fn mandatory(&self, a: usize, list: &mut Vec<u32>) -> Result<(), AllocError>
         requires assertion { (s : Statement) × HasAssertion self.now.statements a s }
         requires empty { list.old.items ≡ [] }
@@ -326,40 +229,8 @@ impl Frames {
         if self.storage.entries.is_whole(a - 1) {
             Ok(())
         } else {
-            self.essential_sets
-                .append_hypotheses(&self.storage, a, list)
+            add_essentials(&self.storage, a, list)
         }
-    }
-
-    /// Returns the mandatory hypotheses of the assertion at a position without a list of all of
-    /// them, or `None` if the active `$e` bring along at most 64 of them or the parts of the
-    /// assertion are kept whole.
-    ///
-    /// Errors: an allocation fails. Cost: the `$f` of the assertion's own variables, times a
-    /// logarithm.
-    pub fn mandatory_view(&self, a: usize) -> Result<Option<MandatoryView<'_>>, AllocError>
-        requires { (s : Statement) × HasAssertion self.now.statements a s }
-        ensures { (s : Statement) → stmt_at self.now.statements a ≡ Some s → IfOk result (λ view. IfSome view (λ list. list ≡ hypotheses (before self.now.statements a) s)) }
-    {
-        if self.storage.entries.is_whole(a - 1) {
-            return Ok(None);
-        }
-        let set = self
-            .essential_sets
-            .set(last_active_at(&self.storage, a).essential);
-        if set == 0 || self.essential_sets.count(set) <= MAX_WITHOUT_VIEW {
-            return Ok(None);
-        }
-        let sets = &self.essential_sets.sets;
-        let own = missing(
-            self.alloc,
-            sets,
-            set,
-            self.storage.entries.hypotheses(a - 1),
-        )?;
-        // Only for the proof: the clause of `len` says that there are fewer than 2^32 positions.
-        let _count = self.storage.entries.len();
-        Ok(Some(MandatoryView { sets, set, own }))
     }
 
     /// Returns the label of the statement at a position, or `None` if it has none.

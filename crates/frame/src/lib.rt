@@ -7,42 +7,29 @@
 //! `Frames` has numbers for symbols, also called codes; `frame` and `Frame` have names. A position
 //! counts from 1, an index from 0.
 //!
-//! Reading order: `storage`, `stored_entries`, `shape`, `frame_buffers`; `symbol_numbers`,
-//! `at_position`, `stacks`, `declare`, `mandatory`, `kept_sets`, `essential_sets`,
-//! `assertion_parts`, `extend` (appending and truncating); `meaning`, `frames`, `mandatory_view`,
-//! `disjoints_with`, `long_searches`, `pair_memo`, `fact_slots`, `pair_facts`, `kept_facts`,
-//! `repeated_searches`, `pairs`, `active_disjoint`, `citing_lists` (queries); `assertion`,
-//! `one_frame`; `laws`.
+//! Reading order: `storage`, `shape`, `frame_buffers`; `symbol_numbers`, `at_position`, `stacks`,
+//! `declare`, `mandatory`, `assertion_parts`, `extend` (appending and truncating); `meaning`,
+//! `frames`, `disjoints_with`, `pairs`, `active_disjoint` (queries); `assertion`, `one_frame`;
+//! `laws`.
 #![tactic(auto)]
 
 mod active_disjoint;
 mod assertion;
 mod assertion_parts;
 mod at_position;
-mod citing_lists;
 mod declare;
 mod disjoints_with;
-mod essential_sets;
 mod extend;
-mod fact_slots;
 mod frame_buffers;
 mod frames;
-mod kept_facts;
-mod kept_sets;
 mod laws;
-mod long_searches;
 mod mandatory;
-mod mandatory_view;
 mod meaning;
 mod one_frame;
-mod pair_facts;
-mod pair_memo;
 mod pairs;
-mod repeated_searches;
 mod shape;
 mod stacks;
 mod storage;
-mod stored_entries;
 mod symbol_numbers;
 
 pub use assertion::Frame;
@@ -50,11 +37,7 @@ pub use disjoints_with::DisjointsWith;
 pub use frame_buffers::FrameBuffers;
 pub use frames::Frames;
 pub use laws::groups_have_mandatory_pairs;
-pub use mandatory_view::MandatoryView;
 pub use meaning::Meaning;
 pub use one_frame::frame;
-pub use pair_facts::{PairFact, PairFacts};
-pub use pair_memo::PairMemo;
 pub use pairs::Pairs;
 pub use shape::is_assertion;
-pub use stored_entries::LONG_EXPRESSION;

@@ -4,8 +4,6 @@ ghost use Rattle.{std.specs.List.list_any, mm_lex.specs.Alphabet.Name, names.spe
 
 use crate::at_position::last_active_at;
 use crate::disjoints_with::DisjointsWith;
-use crate::pair_facts::{PairFacts, searches_x};
-use crate::pair_memo::{PairMemo, search};
 use crate::storage::Storage;
 use crate::symbol_numbers::symbol_number;
 use entries::PositionStack;
@@ -18,15 +16,13 @@ use std::marker::Model;
 pub struct Pairs<'a> {
     /// The statements.
     pub(crate) storage: &'a Storage,
-    /// Facts that are kept with the statements.
-    pub(crate) facts: &'a PairFacts,
     /// The position.
     pub(crate) at: usize,
 }
 
 impl<'a> Model for Pairs<'a> {
     ghost use Rattle.std.specs.Prelude.{◌≤◌, length};
-    ghost use Rattle.{names.specs.Codes.AreDistinct, scope.specs.Active.before, frame.specs.PairFacts.AreFacts, frame.specs.Parts.Numbered, frame.specs.Stored.EntryMeanings.names_in, frame.specs.Stored.EntryMeanings.numbered, frame.specs.Stored.EntryMeanings.statements_of, frame.specs.Stored.Whole.AreStored};
+    ghost use Rattle.{names.specs.Codes.AreDistinct, scope.specs.Active.before, frame.specs.Parts.Numbered, frame.specs.Stored.EntryMeanings.names_in, frame.specs.Stored.EntryMeanings.statements_of, frame.specs.Stored.Whole.AreStored};
 
     ghost Value = { Numbered };
 
@@ -35,8 +31,7 @@ impl<'a> Model for Pairs<'a> {
     ghost invariant = { λ a. AreStored a.storage.now
         × AreDistinct (names_in a.storage.now)
         × (1 ≤ a.at)
-        × (a.at ≤ length (statements_of a.storage.now))
-        × AreFacts (numbered a.storage.now) a.facts.now };
+        × (a.at ≤ length (statements_of a.storage.now)) };
 }
 
 impl<'a> Pairs<'a> {
@@ -57,28 +52,6 @@ impl<'a> Pairs<'a> {
             any_has(self.storage, with_x, y)
         } else {
             any_has(self.storage, with_y, x)
-        }
-    }
-
-    /// Returns whether x and y are different and both occur in one active `$d`, with a memo of
-    /// the pairs that long searches found. If an allocation fails, the pair is not recorded.
-    ///
-    /// Cost: that of `has`, or less in two cases. If the memo has the pair and the `$d` in which it
-    /// was found is active, only a constant, and log n for n pairs in the memo. If a fact that the
-    /// frames keep tells the answer, only the `$d` before the one at which that fact is met.
-    pub fn has_by_memo(&self, memo: &mut PairMemo, x: u32, y: u32) -> bool
-        requires { (x < length self.now.names) × (y < length self.now.names) }
-        ensures { result ≡ is_numbered_pair self.now x y }
-    {
-        if x == y {
-            return false;
-        }
-        let with_x = self.storage.disjoints.stack(x, self.at);
-        let with_y = self.storage.disjoints.stack(y, self.at);
-        if searches_x(with_x.len(), with_y.len(), x, y) {
-            search(self.storage, self.facts, self.at, memo, with_x, x, y)
-        } else {
-            search(self.storage, self.facts, self.at, memo, with_y, y, x)
         }
     }
 
@@ -164,7 +137,7 @@ fn any_has(storage: &Storage, mut stack: PositionStack<'_>, code: u32) -> bool
 }
 
 /// Returns whether the `$d` at a position has the symbol.
-pub(crate) fn has_symbol(storage: &Storage, at: u32, code: u32) -> bool
+fn has_symbol(storage: &Storage, at: u32, code: u32) -> bool
     requires stored { AreStored storage.now }
     requires disjoint { IsOfKind is_disj (statements_of storage.now) at }
     ensures { result ≡ has_code storage.now.entries code at }

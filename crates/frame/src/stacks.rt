@@ -1,13 +1,10 @@
-//! The active `$d`, `$v` and long `$e` that have a symbol: a stack for the number of each symbol.
-//!
-//! A `$e` is long if it has `LONG_EXPRESSION` symbols or more.
+//! The active `$d` and `$v` that have a symbol: a stack for the number of each symbol.
 ghost use Rattle.std.specs.Prelude.{◌≡◌, ◌+◌, ◌-◌, ◌<◌, ℕ, length, OnOk};
 ghost use Rattle.entries.specs.Histories.{AreUntil, reverted, history, pushed, stack_at};
-ghost use Rattle.entries.specs.declared.kind.Kind.TheVariants.{Disj, Ess, Var};
-ghost use Rattle.frame.specs.Stored.Stacks.{AreChangedBy, IsNext, KeepsUntil, codes_by, latest_of, last_by_kind, long_codes, opening};
+ghost use Rattle.entries.specs.declared.kind.Kind.TheVariants.{Disj, Var};
+ghost use Rattle.frame.specs.Stored.Stacks.{AreChangedBy, IsNext, KeepsUntil, latest_of, last_by_kind, opening};
 ghost use Rattle.frame.specs.Stored.Whole.{AreStacksOfStorage};
 
-use crate::stored_entries::LONG_EXPRESSION;
 use entries::{Entries, Histories, Kind, LastActive};
 use std::alloc::AllocError;
 
@@ -24,40 +21,33 @@ pub struct NextStatement<'a> {
     pub last_active: LastActive,
 }
 
-/// Pushes the next statement onto the stacks of its symbols if it is a `$d`, a `$v` or a long `$e`;
-/// if it is a `$}`, restores the stacks to what they were at its `${`.
+/// Pushes the next statement onto the stacks of its symbols if it is a `$d` or a `$v`; if it is a
+/// `$}`, restores the stacks to what they were at its `${`.
 ///
 /// Errors: an allocation fails; the stacks at earlier positions are then the same. Cost: the
-/// symbols of a `$d`, `$v` or long `$e`; for a `$}` those of the `$d`, `$v` and long `$e` that it
-/// makes inactive, for each of these symbols a binary search, and a constant for each short `$e`
-/// that it makes inactive.
+/// symbols of a `$d` or `$v`; for a `$}` those of the `$d` and `$v` that it makes inactive, and for
+/// each of these symbols a binary search.
 #[inline(always)]
 pub fn record_active(
     disjoints: &mut Histories,
     variables: &mut Histories,
-    essentials: &mut Histories,
     entries: &Entries,
     next: &NextStatement<'_>,
 ) -> Result<(), AllocError>
     requires place { next.now.at ≡ length entries.now + 1 }
     requires disjoints { AreStacksOfStorage Disj entries.now next.now.last_active disjoints.old }
     requires variables { AreStacksOfStorage Var entries.now next.now.last_active variables.old }
-    requires essentials { AreStacksOfStorage Ess entries.now next.now.last_active essentials.old }
     ensures disjoints { OnOk result (IsNext next.now.at (latest_of Disj next.now.kind next.now disjoints.old) disjoints.old disjoints.new) }
     ensures variables { OnOk result (IsNext next.now.at (latest_of Var next.now.kind next.now variables.old) variables.old variables.new) }
-    ensures essentials { OnOk result (IsNext next.now.at (latest_of Ess next.now.kind next.now essentials.old) essentials.old essentials.new) }
     ensures kept_disjoints { KeepsUntil (next.now.at - 1) disjoints.old disjoints.new }
     ensures kept_variables { KeepsUntil (next.now.at - 1) variables.old variables.new }
-    ensures kept_essentials { KeepsUntil (next.now.at - 1) essentials.old essentials.new }
 {
     match next.kind {
         Kind::Disj => push_each(disjoints, next.codes, next.at),
         Kind::Var => push_each(variables, next.codes, next.at),
-        Kind::Ess => push_each(essentials, long_codes(next.codes), next.at),
         Kind::Close => {
             revert_all(disjoints, entries, next, Kind::Disj)?;
-            revert_all(variables, entries, next, Kind::Var)?;
-            revert_all(essentials, entries, next, Kind::Ess)
+            revert_all(variables, entries, next, Kind::Var)
         }
         _ => Ok(()),
     }
@@ -73,29 +63,6 @@ fn push_each(histories: &mut Histories, codes: &[u32], at: u32) -> Result<(), Al
         histories.push(*code, at)?;
     }
     Ok(())
-}
-
-/// Returns the symbols of a long expression, and none of a short one.
-#[inline(always)]
-fn long_codes(codes: &[u32]) -> &[u32]
-    ensures { result.now ≡ long_codes codes.now }
-{
-    if codes.len() >= LONG_EXPRESSION {
-        codes
-    } else {
-        &[]
-    }
-}
-
-/// Returns those symbols of a statement of a kind whose stacks have the statement: none of a short
-/// `$e`.
-fn codes_of_kind(codes: &[u32], stack_kind: Kind) -> &[u32]
-    ensures { result.now ≡ codes_by stack_kind codes.now }
-{
-    match stack_kind {
-        Kind::Ess => long_codes(codes),
-        _ => codes,
-    }
 }
 
 /// Restores the stack of each symbol of the active statements of a kind in the innermost open block
@@ -115,8 +82,7 @@ fn revert_all(
     let mut last = last_of_kind(next.last_active, stack_kind);
     while last > next.last_active.block {
         let entry = entries.entry(last as usize - 1);
-        let codes = codes_of_kind(entry.symbols, stack_kind);
-        revert_each(histories, codes, next.at, before)?;
+        revert_each(histories, entry.symbols, next.at, before)?;
         last = last_of_kind(entry.before.last_active, stack_kind);
     }
     Ok(())
@@ -145,7 +111,6 @@ fn last_of_kind(last_active: LastActive, stack_kind: Kind) -> u32
 {
     match stack_kind {
         Kind::Disj => last_active.disjoint,
-        Kind::Ess => last_active.essential,
         _ => last_active.variable,
     }
 }

@@ -1,13 +1,12 @@
 -- Numbers that stand for names, and what one more entry changes.
 -- Internal to the code: no public clause cites it.
-use Rattle.std.specs.Prelude.{◌≡◌, ℕ, ◌<◌, ◌^◌, ◌==◌, true, false, if◌then◌else◌, List, [], ◌∷◌, ◌++◌, length, map, take, Option, Some, None}
-use Rattle.frame.specs.Words.{list_any, Name, Stmt, is_open, is_close, symbols_of, labels_of, LastActive, Kind, Open, Close, Const, Var, Disj, Float, Ess, Axiom, Prove, Entry, Extends}
+use Rattle.std.specs.Prelude.{◌≡◌, ℕ, ◌<◌, ◌^◌, true, false, List, [], ◌∷◌, ◌++◌, length, map, take, Option, Some, None}
+use Rattle.frame.specs.Words.{Name, Stmt, is_open, is_close, symbols_of, labels_of, LastActive, Kind, Open, Close, Const, Var, Disj, Float, Ess, Axiom, Prove, Entry, Extends}
 use Rattle.mm_read.specs.declared.stmt.Stmt.TheVariants as stmt
-use Rattle.frame.specs.declared.storage.LastDeclarations.{LastDeclarations}
 use Rattle.frame.specs.declared.storage.Storage.{Storage}
 use Rattle.frame.specs.Below.{AreBelow}
 use Rattle.frame.specs.Stored.Labels.{is_labelled_kind}
-use Rattle.frame.specs.Stored.EntryMeanings.{stmt_of, names_in, declared_by, with_last}
+use Rattle.frame.specs.Stored.EntryMeanings.{stmt_of, names_in}
 use Rattle.frame.specs.Stored.Stacks.{KeepsUntil}
 
 -- ---- numbers that stand for names
@@ -38,18 +37,14 @@ abbrev pub IsPlain : Option Stmt → Type 0
 IsPlain None = ⊥
 IsPlain (Some s) = (is_open s ≡ false) × (is_close s ≡ false)
 
--- a symbol that nothing declares
-abbrev pub undeclared_symbol : LastDeclarations
-undeclared_symbol = record { float = 0; variable = 0 }
+-- each number is 0
+abbrev pub AreZero : List ℕ → Type 0
+AreZero [] = Unit {0}
+AreZero (x ∷ xs) = (x ≡ 0) × AreZero xs
 
--- nothing declares these symbols
-abbrev pub AreUndeclared : List LastDeclarations → Type 0
-AreUndeclared [] = Unit {0}
-AreUndeclared (x ∷ xs) = (x ≡ undeclared_symbol) × AreUndeclared xs
-
--- the new list is the old one, followed by symbols that nothing declares
-abbrev pub AreUndeclaredAfter : List LastDeclarations → List LastDeclarations → Type 0
-AreUndeclaredAfter old new = (more : List LastDeclarations) × (new ≡ old ++ more) × AreUndeclared more
+-- the new list is the old one, followed by zeros
+abbrev pub AreZeroAfter : List ℕ → List ℕ → Type 0
+AreZeroAfter old new = (more : List ℕ) × (new ≡ old ++ more) × AreZero more
 
 -- the kind of a statement
 abbrev pub kind_of : Stmt → Kind
@@ -71,42 +66,31 @@ next_last_active l at Var = record { block = l.block; essential = l.essential; v
 next_last_active l at Disj = record { block = l.block; essential = l.essential; variable = l.variable; disjoint = at }
 next_last_active l at kind = l
 
--- the last declarations of the symbol c after a statement of a kind at a position, if they were x
-abbrev pub with_declared : Kind → List ℕ → ℕ → ℕ → LastDeclarations → LastDeclarations
-with_declared kind codes at c x =
-    if list_any (λ y. c == y) (declared_by kind codes) then with_last kind at x else x
-
--- the same after an entry
-abbrev pub with_entry : Entry → ℕ → ℕ → LastDeclarations → LastDeclarations
-with_entry e at c x = with_declared e.kind e.symbols at c x
-
--- there are fewer than 2^31 names, and each has its last declarations
+-- there are fewer than 2^31 names, and each has its last `$f`
 pub record HasRoom (k : Storage) : Type 0 where
-  pub count : length k.symbols.items ≡ length (names_in k)
+  pub count : length k.floats.items ≡ length (names_in k)
   pub few : length (names_in k) < 2 ^ 31
 
 -- names and positions were appended; everything else is as before
 pub record HasMoreNames (old new : Storage) : Type 0 where
   pub numbering : Extends old.numbering new.numbering
-  pub symbols : AreUndeclaredAfter old.symbols.items new.symbols.items
+  pub floats : AreZeroAfter old.floats.items new.floats.items
   pub positions : Extends old.positions.items new.positions.items
   pub replaced : new.replaced ≡ old.replaced
   pub ends : new.ends ≡ old.ends
   pub entries : new.entries ≡ old.entries
   pub disjoints : new.disjoints ≡ old.disjoints
   pub variables : new.variables ≡ old.variables
-  pub essentials : new.essentials ≡ old.essentials
   pub last_active : new.last_active ≡ old.last_active
 
 -- the new storage may have more at its end: truncated, it is the old one
 pub record HasMoreAtEnd (old new : Storage) : Type 0 where
   pub numbering : Extends old.numbering new.numbering
-  pub symbols : AreUndeclaredAfter old.symbols.items new.symbols.items
+  pub floats : AreZeroAfter old.floats.items new.floats.items
   pub positions : Extends old.positions.items new.positions.items
   pub replaced : Extends old.replaced.items new.replaced.items
   pub ends : Extends old.ends.items new.ends.items
   pub entries : new.entries ≡ old.entries
   pub disjoints : KeepsUntil (length old.entries) old.disjoints new.disjoints
   pub variables : KeepsUntil (length old.entries) old.variables new.variables
-  pub essentials : KeepsUntil (length old.entries) old.essentials new.essentials
   pub last_active : new.last_active ≡ old.last_active

@@ -1,9 +1,8 @@
 -- The meaning of an entry, and of the entries for the number of a symbol.
 -- Internal to the code: no public clause cites it.
 use Rattle.std.specs.Prelude.{◌≡◌, ℕ, ◌+◌, ◌<◌, ◌==◌, Bool, true, false, ◌&&◌, if◌then◌else◌, List, [], ◌∷◌, ◌++◌, length, map, slice_get, Option, Some, None}
-use Rattle.frame.specs.Words.{list_any, Name, Stmt, Expr, Database, stmt_at, before, label_of, declared_symbols, declared_labels, name_at, decode, Kind, Open, Close, Const, Var, Disj, Float, Ess, Axiom, Prove, Entry, IsLegal, AreVariableNumbers, symbols_after}
+use Rattle.frame.specs.Words.{Name, Stmt, Expr, Database, stmt_at, before, label_of, declared_symbols, declared_labels, name_at, decode, Kind, Open, Close, Const, Var, Disj, Float, Ess, Axiom, Prove, Entry, IsLegal, AreVariableNumbers, symbols_after}
 use Rattle.mm_read.specs.declared.stmt.Stmt.TheVariants as stmt
-use Rattle.frame.specs.declared.storage.LastDeclarations.{LastDeclarations}
 use Rattle.frame.specs.declared.storage.Storage.{Storage}
 use Rattle.frame.specs.Parts.{Numbered}
 
@@ -58,17 +57,12 @@ positions_from at (s ∷ S) = option_position (label_of s) at (positions_from (a
 abbrev pub AreAllLegal : Database → Type 0
 AreAllLegal S = (j : ℕ) (s : Stmt) → stmt_at S j ≡ Some s → IsLegal (before S j) s
 
--- ---- the declarations of a symbol, by its number
+-- ---- the last `$f` of a symbol, by its number
 
 -- a `$f`
 abbrev pub is_float_kind : Kind → Bool
 is_float_kind Float = true
 is_float_kind kind = false
-
--- a `$v`
-abbrev pub is_var_kind : Kind → Bool
-is_var_kind Var = true
-is_var_kind kind = false
 
 -- the second number of the list is c
 abbrev pub second_is : ℕ → List ℕ → Bool
@@ -79,10 +73,6 @@ second_is c codes = false
 abbrev pub is_float_with : ℕ → Entry → Bool
 is_float_with c e = is_float_kind e.kind && second_is c e.symbols
 
--- the entry is a `$v` that has the symbol c, and so declares it as a variable
-abbrev pub is_var_with : ℕ → Entry → Bool
-is_var_with c e = is_var_kind e.kind && list_any (λ x. c == x) e.symbols
-
 -- the position of the last entry that passes the test, or `found`, if the first entry is at `at`
 abbrev pub last_from : (Entry → Bool) → ℕ → ℕ → List Entry → ℕ
 last_from test found at [] = found
@@ -92,48 +82,55 @@ last_from test found at (e ∷ es) = last_from test (if test e then at else foun
 abbrev pub last_where : (Entry → Bool) → List Entry → ℕ
 last_where test es = last_from test 0 1 es
 
--- the last declarations of the symbol c
-abbrev pub last_declarations_of : List Entry → ℕ → LastDeclarations
-last_declarations_of es c = record { float = last_where (is_float_with c) es; variable = last_where (is_var_with c) es }
+-- the position of the last `$f` of the symbol c, or 0
+abbrev pub last_float : List Entry → ℕ → ℕ
+last_float es c = last_where (is_float_with c) es
 
 -- the list has, at each number c of a symbol, x c
-abbrev pub AreGivenBy : List LastDeclarations → (ℕ → LastDeclarations) → Type 0
-AreGivenBy symbols x = (c : ℕ) → c < length symbols → slice_get symbols c ≡ Some (x c)
+abbrev pub AreGivenBy : List ℕ → (ℕ → ℕ) → Type 0
+AreGivenBy floats x = (c : ℕ) → c < length floats → slice_get floats c ≡ Some (x c)
 
--- ---- the declarations that a declaration replaces
+-- ---- the `$f` that a `$f` replaces
 
--- the symbols whose last declaration changes with a statement of this kind with these symbols
-abbrev pub declared_by : Kind → List ℕ → List ℕ
-declared_by Float (a ∷ c ∷ codes) = c ∷ []
-declared_by Var codes = codes
-declared_by kind codes = []
+-- the variable of a `$f` with these symbols
+abbrev pub typed_by : Kind → List ℕ → Option ℕ
+typed_by Float (a ∷ c ∷ codes) = Some c
+typed_by kind codes = None
 
--- the last declaration of a symbol by statements of this kind
-abbrev pub last_of : Kind → LastDeclarations → ℕ
-last_of Float x = x.float
-last_of kind x = x.variable
+-- the number, if there is one, is below n
+abbrev pub IsBelowIfSome : ℕ → Option ℕ → Type 0
+IsBelowIfSome n None = Unit {0}
+IsBelowIfSome n (Some c) = c < n
 
--- the last declarations, with `at` as the one by statements of this kind
-abbrev pub with_last : Kind → ℕ → LastDeclarations → LastDeclarations
-with_last Float at x = record { float = at; variable = x.variable }
-with_last kind at x = record { float = x.float; variable = at }
+-- the last `$f` of the symbol c after a `$f` at a position, if it was x
+abbrev pub with_float : Option ℕ → ℕ → ℕ → ℕ → ℕ
+with_float None at c x = x
+with_float (Some d) at c x = if c == d then at else x
 
--- each declared symbol c has its last declaration by statements of this kind at `at c`; the other
--- last declarations are as before
-abbrev pub AreDeclaredAt : Kind → (ℕ → ℕ) → List ℕ → List LastDeclarations → List LastDeclarations → Type 0
-AreDeclaredAt kind at declared old new = (c : ℕ) (x : LastDeclarations) → slice_get old c ≡ Some x
-    → slice_get new c ≡ Some (if list_any (λ y. c == y) declared then with_last kind (at c) x else x)
+-- the variable has its last `$f` at a position; the others have theirs as before
+abbrev pub AreTypedAt : Option ℕ → ℕ → List ℕ → List ℕ → Type 0
+AreTypedAt typed at old new = (c x : ℕ) → slice_get old c ≡ Some x → slice_get new c ≡ Some (with_float typed at c x)
 
--- the declarations that a statement of this kind with these symbols replaces, if the last
--- declarations before it are x
-abbrev pub replaced_by : (ℕ → LastDeclarations) → Kind → List ℕ → List ℕ
-replaced_by x kind codes = map (λ c. last_of kind (x c)) (declared_by kind codes)
+-- the last `$f` of the variable, if there is one, where that of c is x c
+abbrev pub option_float : (ℕ → ℕ) → Option ℕ → List ℕ
+option_float x None = []
+option_float x (Some c) = x c ∷ []
 
--- the declarations that the entries of a list replace, in order, after earlier entries
+-- each symbol has the last `$f` that x says, and those in `front` are replaced
+pub record AreRestored (x : ℕ → ℕ) (front floats replaced : List ℕ) : Type 0 where
+  pub given : AreGivenBy floats x
+  pub recorded : replaced ≡ front
+
+-- the lists are again as they were before a `$f` with this variable was recorded at some position
+abbrev pub Restores : Option ℕ → List ℕ → List ℕ → List ℕ → List ℕ → Type 0
+Restores typed floats replaced restored left = (x : ℕ → ℕ) (at : ℕ) (front : List ℕ) → replaced ≡ front ++ option_float x typed
+    → AreGivenBy floats (λ c. with_float typed at c (x c)) → AreRestored x front restored left
+
+-- the `$f` that the entries of a list replace, in order, after earlier entries
 abbrev pub replaced_after : List Entry → List Entry → List ℕ
 replaced_after before [] = []
-replaced_after before (e ∷ es) = replaced_by (last_declarations_of before) e.kind e.symbols ++ replaced_after (before ++ e ∷ []) es
+replaced_after before (e ∷ es) = option_float (last_float before) (typed_by e.kind e.symbols) ++ replaced_after (before ++ e ∷ []) es
 
--- the declarations that the entries replace, in order
+-- the `$f` that the entries replace, in order
 abbrev pub replaced_of : List Entry → List ℕ
 replaced_of es = replaced_after [] es

@@ -1,12 +1,11 @@
--- For each symbol, by its number, the active `$d`, `$v` and long `$e` that have it.
+-- For each symbol, by its number, the active `$d` and `$v` that have it.
 -- Internal to the code: no public clause cites it.
 -- Metamath, 4.2.8: after a `$}` the statements that were active before its `${` are active again.
-use Rattle.std.specs.Prelude.{◌≡◌, ℕ, zero, suc, ◌+◌, ◌-◌, ◌≤◌, ◌==◌, Bool, true, nat_le, if◌then◌else◌, List, [], ◌∷◌, length, map, take, slice_get, Some}
-use Rattle.frame.specs.Words.{list_any, StackVersion, AreUntil, history, kept_until, stack_at, Stmt, Database, Entry, is_essential, LastActive, Kind, Close, Disj, Ess, Var}
+use Rattle.std.specs.Prelude.{◌≡◌, ℕ, zero, suc, ◌+◌, ◌-◌, ◌≤◌, ◌==◌, Bool, true, if◌then◌else◌, List, [], ◌∷◌, length, take, slice_get, Some}
+use Rattle.frame.specs.Words.{list_any, StackVersion, AreUntil, history, kept_until, stack_at, Stmt, Database, Entry, LastActive, Kind, Close, Disj, Var}
 use Rattle.frame.specs.declared.stacks.NextStatement.{NextStatement}
 use Rattle.frame.specs.LastActive.{actives, is_disj, is_var}
 use Rattle.frame.specs.Stored.AssertionParts.{symbols_at}
-use Rattle.frame.specs.declared.stored_entries.TheConstants.{LONG_EXPRESSION}
 
 -- the statement at a position has the symbol c
 abbrev pub has_code : List Entry → ℕ → ℕ → Bool
@@ -40,36 +39,16 @@ abbrev pub AreOfKind : (Stmt → Bool) → Database → List ℕ → Type 0
 AreOfKind kind S [] = Unit {0}
 AreOfKind kind S (p ∷ ps) = IsOfKind kind S p × AreOfKind kind S ps
 
--- the symbols of a long expression, and none of a short one
-abbrev pub long_codes : List ℕ → List ℕ
-long_codes codes = if nat_le LONG_EXPRESSION (length codes) then codes else []
-
--- the entry, without its symbols if they are fewer than those of a long expression
-abbrev pub long_entry : Entry → Entry
-long_entry e = record { kind = e.kind; label_count = e.label_count; symbol_count = e.symbol_count; last_active = e.last_active; symbols = long_codes e.symbols; assertion = e.assertion }
-
--- the symbols by which the stacks of a kind are made: none of a short `$e`
-abbrev pub codes_by : Kind → List ℕ → List ℕ
-codes_by Ess codes = long_codes codes
-codes_by kind codes = codes
-
--- the entries by which the stacks of a kind are made: a short `$e` counts as one without symbols
-abbrev pub entries_by : Kind → List Entry → List Entry
-entries_by Ess es = map long_entry es
-entries_by kind es = es
-
 -- ---- the changes that the next statement makes
 
--- the test for the statements of a kind that has stacks: `$d`, `$e` or `$v`
+-- the test for the statements of a kind that has stacks: `$d` or `$v`
 abbrev pub kind_test : Kind → Stmt → Bool
 kind_test Disj s = is_disj s
-kind_test Ess s = is_essential s
 kind_test kind s = is_var s
 
 -- the last active statement of such a kind
 abbrev pub last_by_kind : Kind → LastActive → ℕ
 last_by_kind Disj l = l.disjoint
-last_by_kind Ess l = l.essential
 last_by_kind kind l = l.variable
 
 -- a `$}` restores the stacks of this position: that of its `${`, or 1 if no block is open (0)
@@ -85,7 +64,6 @@ with_top codes at hs c = if list_any (λ x. c == x) codes then at ∷ stack_at (
 abbrev pub latest_of : Kind → Kind → NextStatement → List (List StackVersion) → ℕ → List ℕ
 latest_of Disj Disj x hs c = with_top x.codes.now x.at hs c
 latest_of Var Var x hs c = with_top x.codes.now x.at hs c
-latest_of Ess Ess x hs c = with_top (long_codes x.codes.now) x.at hs c
 latest_of stack_kind Close x hs c = stack_at (history hs c) (opening x.last_active.block)
 latest_of stack_kind kind x hs c = stack_at (history hs c) x.at
 

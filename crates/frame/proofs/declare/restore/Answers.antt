@@ -1,26 +1,25 @@
-use Rattle.frame.proofs.Words.{◌∙◌, ap, sym, arith, length, take, get_or, Some, nat_eq, list_any, get_or-map, length-set, take_all, list_any_more}
-use Rattle.frame.proofs.ActiveDisjointLemmas.{below-at}
-use Rattle.frame.proofs.DeclareLemmas.{recorded, record-step}
+use Rattle.std.specs.Option.{option_to_list}
+use Rattle.frame.proofs.Words.{◌∙◌, ap, sym, subst, arith, append-nil, length, length-append, ◌++◌, ◌∷◌, [], Some, AreGivenBy, option_float, with_float}
+use Rattle.frame.proofs.DeclareLemmas.{last-parts, restored}
 use Rattle.frame.proofs.declare.restore.Goals as goal
 
-pub index_mut-requires : goal.index_mut-requires
-index_mut-requires c =
-    let b = below-at (length c.args.symbols.now.items) c.args.declared.now c.loop-place.place 0 c.requires.below (omega arith) in
-    let n = c.loop-place.invariant.count in
-    omega (arith, b, n)
-
-pub loop-place-preserved : goal.loop-place-preserved
-loop-place-preserved c = record {
-  each = λ x h k y g.
-      let i = c.loop-place.place in
-      let codes = c.args.declared.now in
-      rw c.set_last.ensures (record-step c.args.kind c.loop-place.symbols.items (get_or codes i 0) k (get_or c.args.replaced.now i 0) c.index_mut.result.now y x (list_any (nat_eq k) (take i codes))
-      (c.loop-place.invariant.each x h k y g) c.index_mut.ensures.value (ap (λ r. get_or r i 0) h ∙ get_or-map x codes i 0 0 (omega arith))
-      ∙ ap (λ b. Some (recorded c.args.kind y (x k) b)) (sym (list_any_more (nat_eq k) codes i 0 (omega arith))));
-  count = length-set c.loop-place.symbols.items (get_or c.args.declared.now c.loop-place.place 0) _ ∙ c.loop-place.invariant.count;
+pub returns-in_default-clause-restored : goal.returns-in_default-clause-restored
+returns-in_default-clause-restored c = λ x at front is reads. record {
+  given = λ m lt. reads m lt ∙ ap (λ t. Some (with_float t at m (x m))) c.in_default.is;
+  recorded = is ∙ (ap (λ t. front ++ option_float x t) c.in_default.is ∙ append-nil front);
 }
 
-pub returns-clause-each : goal.returns-clause-each
-returns-clause-each c = λ x h k y g.
-    c.loop-place.invariant.each x h k y g
-    ∙ ap (λ l. Some (recorded c.args.kind y (x k) (list_any (nat_eq k) l))) (take_all c.loop-place.place c.args.declared.now (omega arith))
+pub returns-in_default-pop-clause-restored : goal.returns-in_default-pop-clause-restored
+returns-in_default-pop-clause-restored c = λ x at front is reads.
+    let whole = ap length (is ∙ ap (λ t. front ++ option_float x t) c.in-Some.is) ∙ length-append front (x c.in-Some.variable ∷ []) in
+    absurd (omega (arith, whole, c.in_default-pop.ensures.cases))
+
+pub returns-clause-restored : goal.returns-clause-restored
+returns-clause-restored c = λ x at front is reads.
+    let new = c.pop.new.self.items in
+    let whole = sym (is ∙ ap (λ t. front ++ option_float x t) c.in-Some.is) ∙ (c.pop.ensures.items ∙ ap (λ r. new ++ option_to_list r) c.in-Some-pop.is) in
+    let parts = last-parts front new (x c.in-Some.variable) c.in-Some-pop.position whole in
+    record {
+      given = restored c.args.floats.now.items c.in-Some.variable at c.in-Some-pop.position x parts.1 (subst (λ t. AreGivenBy c.args.floats.now.items (λ m. with_float t at m (x m))) c.in-Some.is reads);
+      recorded = parts.0;
+    }

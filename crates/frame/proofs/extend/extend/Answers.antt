@@ -1,9 +1,9 @@
-use Rattle.frame.proofs.Words.{Extends, HasMoreAtEnd, Result, Ok, Err, OnErr, append-nil, ◌≡◌, ◌∙◌, ap, sym, subst, arith, refl, length, ◌+◌, ◌++◌, ◌∷◌, [], true, bare, entry_by, may-declare, AreBelow, has_parts, statements_of, AreGivenBy, IsKeptOf, NextStatement, history, kept_until, EntryHeader}
+use Rattle.frame.proofs.Words.{Extends, HasMoreAtEnd, Result, Ok, Err, OnErr, append-nil, ◌≡◌, ◌∙◌, ap, sym, subst, arith, refl, length, ◌+◌, ◌++◌, ◌∷◌, [], true, bare, entry_by, may-declare, AreBelow, has_parts, statements_of, AreGivenBy, IsKeptOf, NextStatement, history, kept_until, EntryHeader, IsBelowIfSome, List, ℕ}
 use Rattle.frame.proofs.EndLemmas.{block-within, ends-next}
 use Rattle.frame.proofs.EnterLemmas.{IsEntered, IsExtended, added-numbers, entered-below, kept-pushed, numbered-pushed, pushed-statements}
 use Rattle.frame.proofs.NamingLemmas.{stored-naming}
-use Rattle.frame.proofs.BackLemmas.{walked-disj, walked-ess, walked-var}
-use Rattle.frame.proofs.StackLemmas.{disjoints-next, essentials-next, variables-next}
+use Rattle.frame.proofs.BackLemmas.{walked-disj, walked-var}
+use Rattle.frame.proofs.StackLemmas.{disjoints-next, variables-next}
 use Rattle.frame.proofs.extend.extend.Goals as goal
 use Rattle.frame.proofs.extend.extend.Goals.{In-Some}
 
@@ -25,32 +25,27 @@ entered c = record {
   recorded_after = c.in_ok-declare_next.ensures.recorded;
 }
 
-below : (c : In-Some) → AreBelow (length c.declare_next.new.storage.symbols.items) c.in-Some.codes.now
+below : (c : In-Some) → AreBelow (length c.declare_next.new.storage.floats.items) c.in-Some.codes.now
 below c =
     subst (λ n. AreBelow n c.in-Some.codes.now) (sym c.in_ok-declare_next.ensures.room.count)
     (entered-below c.args.storage.now c.declare_next.new.storage c.args.stmt.now (header c) c.find_numbers.new.recorded c.declare_next.new.recorded c.in-Some.codes.now (entered c) c.in-Some.ensures.numbers)
 
 pub record_replaced-requires : goal.record_replaced-requires
 record_replaced-requires c =
-    subst (λ xs. AreBelow (length xs) c.declared-declared.result.now) (sym c.deref.ensures.value) (c.declared-declared.ensures.below _ (below (goal.at.record_replaced-requires c).In-Some))
+    subst (λ (xs : List ℕ). IsBelowIfSome (length xs) c.typed-typed.result) (sym c.deref.ensures.value) (c.typed-typed.ensures.below _ (below (goal.at.record_replaced-requires c).In-Some))
 
 pub record_active-requires-clause-disjoints : goal.record_active-requires-clause-disjoints
 record_active-requires-clause-disjoints c =
     let g = c.in_ok-declare_next.ensures.grown in
-    rw c.list.ensures (walked-disj c.args.storage.now c.declare_next.new.storage.entries c.declare_next.new.storage.last_active c.declare_next.new.storage.disjoints c.requires.stored g.entries g.last_active g.disjoints)
+    walked-disj c.args.storage.now c.declare_next.new.storage.entries c.declare_next.new.storage.last_active c.declare_next.new.storage.disjoints c.requires.stored g.entries g.last_active g.disjoints
 
 pub record_active-requires-clause-variables : goal.record_active-requires-clause-variables
 record_active-requires-clause-variables c =
     let g = c.in_ok-declare_next.ensures.grown in
-    rw c.list.ensures (walked-var c.args.storage.now c.declare_next.new.storage.entries c.declare_next.new.storage.last_active c.declare_next.new.storage.variables c.requires.stored g.entries g.last_active g.variables)
-
-pub record_active-requires-clause-essentials : goal.record_active-requires-clause-essentials
-record_active-requires-clause-essentials c =
-    let g = c.in_ok-declare_next.ensures.grown in
-    rw c.list.ensures (walked-ess c.args.storage.now c.declare_next.new.storage.entries c.declare_next.new.storage.last_active c.declare_next.new.storage.essentials c.requires.stored g.entries g.last_active g.essentials)
+    walked-var c.args.storage.now c.declare_next.new.storage.entries c.declare_next.new.storage.last_active c.declare_next.new.storage.variables c.requires.stored g.entries g.last_active g.variables
 
 pub declare-requires : goal.declare-requires
-declare-requires c = c.declared-declared.ensures.below _ (below (goal.at.declare-requires c).In-Some)
+declare-requires c = c.typed-typed.ensures.below _ (below (goal.at.declare-requires c).In-Some)
 
 pub record_end-requires : goal.record_end-requires
 record_end-requires c =
@@ -68,14 +63,13 @@ returns-in_err-push-clause-after c =
     let g = c.in_ok-declare_next.ensures.grown in
     any-err {P = HasMoreAtEnd c.args.storage.now _} c.from_residual-in_err-push.result (record {
       numbering = g.numbering;
-      symbols = g.symbols;
+      floats = g.floats;
       positions = g.positions;
       replaced = subst (λ v. Extends v.items c.record_replaced.new.replaced.items) g.replaced c.record_replaced.ensures.after;
       ends = ([], c.in_err-push.ensures.items ∙ (ap (λ v. v.items) g.ends ∙ sym (append-nil _)));
       entries = g.entries;
       disjoints = λ d. ap (λ hs. kept_until (length c.args.storage.now.entries) (history hs d)) g.disjoints;
       variables = λ d. ap (λ hs. kept_until (length c.args.storage.now.entries) (history hs d)) g.variables;
-      essentials = λ d. ap (λ hs. kept_until (length c.args.storage.now.entries) (history hs d)) g.essentials;
       last_active = g.last_active;
     })
 
@@ -90,15 +84,15 @@ returns c =
     let e = entered (goal.at.returns c).In-Some in
     let a = c.fill_parts.new.buffers in
     let kept : has_parts h.kind ≡ true → IsKeptOf k s a = λ own. c.in_ok-fill_parts.ensures.kept (ap has_parts (sym e.header.kind) ∙ own) in
-    let extended : IsExtended k new c.args.stmt.now h a codes c.kind-kind.result (c.len-at.result + 1) c.declare.new.symbols.items c.record_replaced.new.replaced.items c.push-2.new.self c.last_active_after-last_active.result = record {
+    let extended : IsExtended k new c.args.stmt.now h a codes c.kind-kind.result c.in_ok-to_u32-2.field-0 c.declare.new.floats.items c.record_replaced.new.replaced.items c.push-2.new.self c.last_active_after-last_active.result = record {
       grown = told.grown;
       room = told.room;
       positions = told.positions;
       kept = kept;
       of_kind = c.kind-kind.ensures ∙ sym e.header.kind;
-      place = omega (arith, c.len-at.ensures.len);
-      recorded = λ x reads. rw (← c.declared-declared.ensures.declared) (c.in_ok-record_replaced.ensures.recorded x (subst (λ xs. AreGivenBy xs x) (sym c.deref.ensures.value) reads));
-      each = λ k x g. rw (← c.declared-declared.ensures.declared) (c.declare.ensures.each k x g);
+      place = omega (arith, c.len-at.ensures.len, c.in_ok-to_u32-2.ensures);
+      recorded = λ x reads. rw (← c.typed-typed.ensures.typed) (c.in_ok-record_replaced.ensures.recorded x (subst (λ xs. AreGivenBy xs x) (sym c.deref.ensures.value) reads));
+      each = λ k x g. rw (← c.typed-typed.ensures.typed) (c.declare.ensures.each k x g);
       count = c.declare.ensures.count;
       pushed = rw (c.parts.ensures.symbols, c.parts.ensures.assertion) at c.in_ok-push-2.ensures.added;
       linked = c.last_active_after-last_active.ensures s (sym c.kind-kind.ensures);
@@ -111,14 +105,12 @@ returns c =
       stored = record {
         kept = kept-pushed e c.in-Some.ensures.numbers extended;
         numbered = numbered-pushed k new c.args.stmt.now _ c.requires.stored told.numbering statements;
-        ended = ends-next k s _ c.kind-kind.result new.last_active.block (c.len-at.result + 1) c.push.new.self.items c.record_end.new.ends.items c.requires.stored c.kind-kind.ensures (ap (λ l. l.block) told.grown.last_active)
-            (omega (arith, c.len-at.ensures.len)) (c.in_ok-push.ensures.items ∙ ap (λ v. v.items ++ 0 ∷ []) told.grown.ends) c.record_end.ensures statements;
+        ended = ends-next k s _ c.kind-kind.result new.last_active.block x.at c.push.new.self.items c.record_end.new.ends.items c.requires.stored c.kind-kind.ensures (ap (λ l. l.block) told.grown.last_active)
+            place (c.in_ok-push.ensures.items ∙ ap (λ v. v.items ++ 0 ∷ []) told.grown.ends) c.record_end.ensures statements;
         disjoints = disjoints-next k s (entry_by h codes a) x c.requires.stored place refl c.kind-kind.ensures told.grown.last_active new.disjoints c.record_active.new.disjoints c.push-2.new.self _ entries statements told.grown.disjoints c.in_ok-record_active.ensures.disjoints;
         variables = variables-next k s (entry_by h codes a) x c.requires.stored place refl c.kind-kind.ensures told.grown.last_active new.variables c.record_active.new.variables c.push-2.new.self _ entries statements told.grown.variables c.in_ok-record_active.ensures.variables;
-        essentials = essentials-next k s (entry_by h codes a) x c.requires.stored place refl c.kind-kind.ensures told.grown.last_active new.essentials c.record_active.new.essentials c.push-2.new.self _ entries statements told.grown.essentials c.in_ok-record_active.ensures.essentials;
       };
       added = statements;
       numbers = added-numbers e c.in-Some.ensures.numbers extended;
-      more = (entry_by h codes a ∷ [], entries);
       after = tt;
     }

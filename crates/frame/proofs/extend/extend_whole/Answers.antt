@@ -1,10 +1,6 @@
-use Rattle.frame.proofs.Words.{◌∙◌, ap, sym, take, arith, HasMoreAtEnd, on-err, Result, Ok, Err, OnErr}
+use Rattle.frame.proofs.Words.{◌∙◌, ap, sym, take, arith, HasMoreAtEnd, on-err}
 use Rattle.frame.proofs.CutStorage.{back-stored}
 use Rattle.frame.proofs.extend.extend_whole.Goals as goal
-
-any-err : {T E P : Type 0} (r : Result T E) → P → OnErr r P
-any-err (Ok x) p = tt
-any-err (Err e) p = p
 
 pub returns-then-is_err-clause-stored : goal.returns-then-is_err-clause-stored
 returns-then-is_err-clause-stored c =
@@ -15,20 +11,12 @@ returns-then-is_err-clause-stored c =
     back-stored old mid c.roll_back.new.storage c.requires.stored (record {
       after = after;
       numbering_cut = cut.names ∙ ap (λ n. take n mid.numbering) c.len-names.ensures;
-      symbols_cut = cut.symbols;
+      floats_cut = cut.floats;
       positions_cut = cut.positions;
       replaced_cut = cut.replaced ∙ ap (λ n. take n mid.replaced.items) (omega (arith, c.len-replaced.ensures, old.replaced.ok.0));
       ends_cut = cut.ends;
       entries_cut = cut.entries;
       disjoints_cut = cut.disjoints;
       variables_cut = cut.variables;
-      essentials_cut = cut.essentials;
       last_active_cut = cut.last_active;
     })
-
-pub returns-then-is_err-clause-same_entries : goal.returns-then-is_err-clause-same_entries
-returns-then-is_err-clause-same_entries c =
-    let old = c.args.storage.now in
-    let mid = c.extend-result.new.storage in
-    let after = on-err c.extend-result.result (HasMoreAtEnd old mid) (sym c.is_err.ensures.value ∙ c.if-is_err.true) c.extend-result.ensures.after in
-    any-err c.extend-result.result (c.roll_back.ensures.entries ∙ after.entries)

@@ -1,5 +1,5 @@
-use Rattle.frame.proofs.Words.{◌≡◌, ◌∙◌, ap, sym, subst, arith, length, take, ◌<◌, ◌≤◌, is_disj, is_var, AreStored, Extends, length-take-le, take-length, slice_get_within, names_in, labels_in, statements_of, AreGivenBy, replaced_of, last_declarations_of, declared_symbols, declared_labels, naming_of, entry_from_ref, AreKeptUntil}
-use Rattle.frame.proofs.StackLemmas.{essentials-front, stacks-front}
+use Rattle.frame.proofs.Words.{◌≡◌, ◌∙◌, ap, sym, subst, arith, length, take, ◌<◌, ◌≤◌, is_disj, is_var, AreStored, Extends, length-take-le, take-length, slice_get_within, names_in, labels_in, statements_of, AreGivenBy, replaced_of, last_float, declared_symbols, declared_labels, naming_of, entry_from_ref, AreKeptUntil}
+use Rattle.frame.proofs.StackLemmas.{stacks-front}
 use Rattle.frame.proofs.EndLemmas.{ends-front, stored-blocks}
 use Rattle.frame.proofs.CutStorage.{IsCut, kept-cut, cut-statements, names-front, front-naming, numbering-front}
 use Rattle.frame.proofs.extend.truncate_storage.Goals as goal
@@ -11,7 +11,7 @@ left c =
     let n = c.args.len in
     let e = entry_from_ref c.entry-first.result c.entry-first.ensures.0 in
     let away = c.remove_entries.ensures in
-    let between = c.remove_entries.new.storage.symbols.items in
+    let between = c.remove_entries.new.storage.floats.items in
     let left = c.remove_entries.new.storage.replaced.items in
     let back = c.roll_back.ensures in
     let new = c.roll_back.new.storage in
@@ -21,15 +21,15 @@ left c =
     let names = ap declared_symbols numbering ∙ fewer.symbols in
     let labels = ap declared_labels numbering ∙ fewer.labels in
     let counts = c.requires.stored.kept.counts_kept n e c.entry-first.ensures.1 in
-    let cut : IsCut (names_in k) (labels_in k) k.positions.items k.symbols.items k.entries (names_in new) (labels_in new) new.positions.items between new.symbols.items new.replaced.items new.entries new.last_active n e = record {
+    let cut : IsCut (names_in k) (labels_in k) k.positions.items k.floats.items k.entries (names_in new) (labels_in new) new.positions.items between new.floats.items new.replaced.items new.entries new.last_active n e = record {
       at = c.entry-first.ensures.1;
       names_cut = names;
       labels_cut = labels;
       positions_cut = back.positions ∙ ap (λ v. take (length (labels_in new)) v.items) away.names.1 ∙ ap (λ m. take m k.positions.items) (ap length labels ∙ sym counts.label_count);
       between_count = away.count;
-      symbols_cut = back.symbols ∙ ap (λ m. take m between) (ap length names ∙ sym counts.name_count);
+      floats_cut = back.floats ∙ ap (λ m. take m between) (ap length names ∙ sym counts.name_count);
       entries_cut = back.entries ∙ away.entries;
-      declared = subst (λ v. AreGivenBy between (last_declarations_of v)) (sym back.entries) away.declared;
+      declared = subst (λ v. AreGivenBy between (last_float v)) (sym back.entries) away.declared;
       recorded = back.replaced ∙ (ap (λ m. take m left) all ∙ (take-length left ∙ (away.recorded ∙ ap (λ v. replaced_of v) (sym back.entries))));
       last_active_back = back.last_active;
     } in
@@ -40,8 +40,7 @@ left c =
     let statements = cut-statements c.requires.stored.kept cut in
     let low : n ≤ length k.entries = omega (arith, slice_get_within k.entries n e c.entry-first.ensures.1) in
     let kept_disjoints : AreKeptUntil (length c.remove_entries.new.storage.entries) c.remove_entries.new.storage.disjoints new.disjoints → AreKeptUntil n k.disjoints new.disjoints = λ h. rw (← long, ← away.stacks.0) h in
-    let kept_variables : AreKeptUntil (length c.remove_entries.new.storage.entries) c.remove_entries.new.storage.variables new.variables → AreKeptUntil n k.variables new.variables = λ h. rw (← long, ← away.stacks.1) h in
-    let kept_essentials : AreKeptUntil (length c.remove_entries.new.storage.entries) c.remove_entries.new.storage.essentials new.essentials → AreKeptUntil n k.essentials new.essentials = λ h. rw (← long, ← away.stacks.2) h in (
+    let kept_variables : AreKeptUntil (length c.remove_entries.new.storage.entries) c.remove_entries.new.storage.variables new.variables → AreKeptUntil n k.variables new.variables = λ h. rw (← long, ← away.stacks.1) h in (
       record {
         kept = kept-cut c.requires.stored.kept cut;
         numbered = numbering ∙ ap naming_of (sym statements);
@@ -49,7 +48,6 @@ left c =
             (ends-front c.remove_entries.new.storage.ends.items S n (omega (arith, fewer-than)) (away.count_ends ∙ c.requires.stored.ended.count) away.ends);
         disjoints = rw (statements, back.entries ∙ away.entries) (stacks-front is_disj k.disjoints new.disjoints k.entries S n c.requires.stored.disjoints low (kept_disjoints back.disjoints));
         variables = rw (statements, back.entries ∙ away.entries) (stacks-front is_var k.variables new.variables k.entries S n c.requires.stored.variables low (kept_variables back.variables));
-        essentials = rw (statements, back.entries ∙ away.entries) (essentials-front k.essentials new.essentials k.entries S n c.requires.stored.essentials low (kept_essentials back.essentials));
       },
       statements,
       names-front c.requires.stored.kept cut,
@@ -58,4 +56,4 @@ left c =
 pub returns-then-len : goal.returns-then-len
 returns-then-len c =
     let new = left (goal.at.returns-then-len c).After-roll_back in
-    record { stored = new.0; statements = new.1; entries = c.roll_back.ensures.entries ∙ c.remove_entries.ensures.entries; names = new.2 }
+    record { stored = new.0; statements = new.1; names = new.2 }

@@ -1,6 +1,6 @@
 use Rattle.frame.proofs.Words.{◌≡◌, ◌-◌, ◌∙◌, ap, sym, subst, arith, map, ◌++◌, ◌∷◌, [], map-append, is_essential, IsKeptWith, In, HasMore, option_kept, names_in, labels_in, stmt_of, entry_from_ref}
 use Rattle.frame.proofs.KindWalk.{walked, walk-from, walk-step, essential_chain}
-use Rattle.frame.proofs.CollectLemmas.{last-in, last-out, pushed-more, left-step, left-ordered}
+use Rattle.frame.proofs.CollectLemmas.{appended, last-in, last-out, pushed-more, left-step, left-ordered}
 use Rattle.frame.proofs.mandatory.add_essentials.Goals as goal
 
 pub loop-essential-init : goal.loop-essential-init
@@ -18,8 +18,10 @@ loop-essential-preserved c =
     let e = entry_from_ref c.entry-essential.result c.entry-essential.ensures.0 in let g = c.entry-essential.ensures.1 in
     let s = walk-step e essential_chain c.requires.stored c.loop-essential.invariant.at c.loop-essential-test.true g in
     let before = map (λ q. q.0) (walked is_essential k c.entry-essential.result.before.last_active.essential) in
-    let more : HasMore (IsKeptWith k.entries p) c.loop-essential.list.items c.add_new.new.list.items =
-    pushed-more _ c.in_ok-push.ensures.items (subst (λ r. HasMore (λ x. In x r) c.push.new.self.items c.add_new.new.list.items) (c.hypotheses.ensures e g ∙ sym (ap option_kept g)) c.in_ok-add_new.ensures) in
+    let kept = c.hypotheses.result.now in
+    let list = c.extend_from_slice.new.self.items in
+    let more : HasMore (IsKeptWith k.entries p) c.loop-essential.list.items list =
+    pushed-more _ c.in_ok-push.ensures.items (subst (λ r. HasMore (λ x. In x r) c.push.new.self.items list) (c.hypotheses.ensures e g ∙ sym (ap option_kept g)) (appended c.push.new.self.items kept list c.in_ok-extend_from_slice.ensures.items)) in
     let here : map (λ q. q.0) (walked is_essential k p) ≡ before ++ p ∷ [] = ap (map (λ q. q.0)) s.list ∙ map-append (λ q. q.0) (walked is_essential k c.entry-essential.result.before.last_active.essential) ((p, stmt_of (names_in k) (labels_in k) e) ∷ []) in
     record { at = s.at; left = left-step (λ x i. last-out x p before i) (λ x i. last-in x p before i) more (rw here at c.loop-essential.invariant.left) }
 

@@ -1,6 +1,6 @@
-use Rattle.frame.proofs.Words.{◌-◌, sym, subst, arith, refl, ok-weaker, Result, Ok, Err, OnOk, Disj, Ess, Var, IsNext, latest_of, long_codes}
+use Rattle.frame.proofs.Words.{◌-◌, sym, subst, arith, refl, ok-weaker, Result, Ok, Err, OnOk, Disj, Var, IsNext, latest_of}
 use Rattle.frame.proofs.StackLemmas.{next-pushed, all-later}
-use Rattle.frame.proofs.BackLemmas.{latest-disj-other, latest-ess-other, latest-var-other, next-other, walked-until}
+use Rattle.frame.proofs.BackLemmas.{latest-disj-other, latest-var-other, next-other, walked-until}
 use Rattle.frame.proofs.stacks.record_active.Goals as goal
 
 pub push_each-requires : goal.push_each-requires
@@ -12,11 +12,6 @@ pub push_each-requires-in-Var : goal.push_each-requires-in-Var
 push_each-requires-in-Var c =
     let x = c.args.next.now in
     all-later (x.at - 1) x.at c.args.variables.now (omega arith) (walked-until Var c.args.entries.now x.last_active c.args.variables.now x.at c.requires.variables c.requires.place)
-
-pub push_each-requires-in-Ess : goal.push_each-requires-in-Ess
-push_each-requires-in-Ess c =
-    let x = c.args.next.now in
-    all-later (x.at - 1) x.at c.args.essentials.now (omega arith) (walked-until Ess c.args.entries.now x.last_active c.args.essentials.now x.at c.requires.essentials c.requires.place)
 
 any-ok : {T E P : Type 0} (r : Result T E) → P → OnOk r P
 any-ok (Ok x) p = p
@@ -50,41 +45,6 @@ returns-in-Var-clause-variables c =
     subst (λ q. OnOk c.push_each-in-Var.result (IsNext x.at (latest_of Var q x hs) hs c.push_each-in-Var.new.histories)) (sym c.in-Var.is)
     (ok-weaker c.push_each-in-Var.result _ _ (next-pushed x.at (omega (arith, c.requires.place)) hs (walked-until Var c.args.entries.now x.last_active hs x.at c.requires.variables c.requires.place) x.codes.now c.push_each-in-Var.new.histories) c.push_each-in-Var.ensures.changed)
 
-pub returns-in-Disj-clause-essentials : goal.returns-in-Disj-clause-essentials
-returns-in-Disj-clause-essentials c =
-    let x = c.args.next.now in
-    let hs = c.args.essentials.now in
-    any-ok c.push_each.result (next-other x.at hs (latest_of Ess x.kind x hs) (omega (arith, c.requires.place)) (walked-until Ess c.args.entries.now x.last_active hs x.at c.requires.essentials c.requires.place)
-    (λ d. latest-ess-other x.kind x hs d (λ e. let is = c.in-Disj.is in cc) (λ e. let is = c.in-Disj.is in cc)))
-
-pub returns-in-Var-clause-essentials : goal.returns-in-Var-clause-essentials
-returns-in-Var-clause-essentials c =
-    let x = c.args.next.now in
-    let hs = c.args.essentials.now in
-    any-ok c.push_each-in-Var.result (next-other x.at hs (latest_of Ess x.kind x hs) (omega (arith, c.requires.place)) (walked-until Ess c.args.entries.now x.last_active hs x.at c.requires.essentials c.requires.place)
-    (λ d. latest-ess-other x.kind x hs d (λ e. let is = c.in-Var.is in cc) (λ e. let is = c.in-Var.is in cc)))
-
-pub returns-in-Ess-clause-disjoints : goal.returns-in-Ess-clause-disjoints
-returns-in-Ess-clause-disjoints c =
-    let x = c.args.next.now in
-    let hs = c.args.disjoints.now in
-    any-ok c.push_each-in-Ess.result (next-other x.at hs (latest_of Disj x.kind x hs) (omega (arith, c.requires.place)) (walked-until Disj c.args.entries.now x.last_active hs x.at c.requires.disjoints c.requires.place)
-    (λ d. latest-disj-other x.kind x hs d (λ e. let is = c.in-Ess.is in cc) (λ e. let is = c.in-Ess.is in cc)))
-
-pub returns-in-Ess-clause-variables : goal.returns-in-Ess-clause-variables
-returns-in-Ess-clause-variables c =
-    let x = c.args.next.now in
-    let hs = c.args.variables.now in
-    any-ok c.push_each-in-Ess.result (next-other x.at hs (latest_of Var x.kind x hs) (omega (arith, c.requires.place)) (walked-until Var c.args.entries.now x.last_active hs x.at c.requires.variables c.requires.place)
-    (λ d. latest-var-other x.kind x hs d (λ e. let is = c.in-Ess.is in cc) (λ e. let is = c.in-Ess.is in cc)))
-
-pub returns-in-Ess-clause-essentials : goal.returns-in-Ess-clause-essentials
-returns-in-Ess-clause-essentials c =
-    let x = c.args.next.now in
-    let hs = c.args.essentials.now in
-    subst (λ q. OnOk c.push_each-in-Ess.result (IsNext x.at (latest_of Ess q x hs) hs c.push_each-in-Ess.new.histories)) (sym c.in-Ess.is)
-    (ok-weaker c.push_each-in-Ess.result _ _ (next-pushed x.at (omega (arith, c.requires.place)) hs (walked-until Ess c.args.entries.now x.last_active hs x.at c.requires.essentials c.requires.place) (long_codes x.codes.now) c.push_each-in-Ess.new.histories) (rw c.long_codes.ensures at c.push_each-in-Ess.ensures.changed))
-
 pub returns-in_default : goal.returns-in_default
 returns-in_default c =
     let x = c.args.next.now in
@@ -93,9 +53,6 @@ returns-in_default c =
           (λ d. latest-disj-other x.kind x c.args.disjoints.now d c.in_default.not-Disj c.in_default.not-Close);
       variables = next-other x.at c.args.variables.now (latest_of Var x.kind x c.args.variables.now) (omega (arith, c.requires.place)) (walked-until Var c.args.entries.now x.last_active c.args.variables.now x.at c.requires.variables c.requires.place)
           (λ d. latest-var-other x.kind x c.args.variables.now d c.in_default.not-Var c.in_default.not-Close);
-      essentials = next-other x.at c.args.essentials.now (latest_of Ess x.kind x c.args.essentials.now) (omega (arith, c.requires.place)) (walked-until Ess c.args.entries.now x.last_active c.args.essentials.now x.at c.requires.essentials c.requires.place)
-          (λ d. latest-ess-other x.kind x c.args.essentials.now d c.in_default.not-Ess c.in_default.not-Close);
       kept_disjoints = λ d. refl;
       kept_variables = λ d. refl;
-      kept_essentials = λ d. refl;
     }

@@ -28,7 +28,7 @@ loop-last-smaller c =
 pub loop-last-preserved : goal.loop-last-preserved
 loop-last-preserved c =
     rw c.last_of_kind-last-in-loop-last.ensures (back-step c.args.stack_kind c.args.entries.now c.args.next.now.last_active c.max-before.result c.args.next.now.at c.args.histories.now c.requires.place c.loop-last.last c.loop-last.histories c.loop-last.invariant
-    (entry_from_ref c.entry-entry.result c.entry-entry.ensures.0) c.loop-last-test.true c.entry-entry.ensures.1 c.revert_each.new.histories (rw c.codes_of_kind-codes.ensures at c.in_ok-revert_each.ensures.changed))
+    (entry_from_ref c.entry-entry.result c.entry-entry.ensures.0) c.loop-last-test.true c.entry-entry.ensures.1 c.revert_each.new.histories c.in_ok-revert_each.ensures.changed)
 
 opens : (b n : ℕ) → n ≡ max b 1 → n ≡ opening b
 opens zero n e = omega (arith, e)

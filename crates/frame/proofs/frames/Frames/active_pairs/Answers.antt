@@ -1,10 +1,9 @@
 use Rattle.frame.proofs.AssertionViewLemmas.{all-legal}
 use Rattle.frame.proofs.DeclaredSymbolLemmas.{stored-distinct}
-use Rattle.frame.proofs.KeptFactLemmas.{kept-facts}
 use Rattle.frame.proofs.frames.Frames.active_pairs.Goals as goal
 
 pub returns-clause-legal : goal.returns-clause-legal
-returns-clause-legal c = rw (← c.self.view_is) (all-legal c.self.inside.storage c.self.invariant.stored)
+returns-clause-legal c = rw (← c.self.view_is) (all-legal c.self.inside.storage c.self.invariant)
 
 pub invariant_of-result : goal.invariant_of-result
-invariant_of-result c = (c.self.invariant.stored, stored-distinct c.self.inside.storage c.self.invariant.stored, c.requires.0, rw (← c.self.view_is) at c.requires.1, kept-facts c.self.inside.storage c.self.inside.kept_facts c.self.invariant.stored c.self.invariant.facts)
+invariant_of-result c = (c.self.invariant, stored-distinct c.self.inside.storage c.self.invariant, c.requires.0, rw (← c.self.view_is) at c.requires.1)

@@ -1,9 +1,5 @@
 use Rattle.frame.proofs.NamingLemmas.{stored-naming}
-use Rattle.frame.proofs.KeptFactLemmas.{without-facts}
 use Rattle.frame.proofs.frames.Frames.add.Goals as goal
 
 pub broken_rule-broken-requires-clause-numbering : goal.broken_rule-broken-requires-clause-numbering
-broken_rule-broken-requires-clause-numbering c = rw (c.requires.same, ← c.self.view_is) (stored-naming c.self.inside.storage c.self.invariant.stored)
-
-pub extend_with_sets-requires-clause-kept : goal.extend_with_sets-requires-clause-kept
-extend_with_sets-requires-clause-kept c = without-facts c.self.inside.storage c.self.inside.essential_sets c.self.inside.kept_facts c.self.invariant
+broken_rule-broken-requires-clause-numbering c = rw (c.requires.same, ← c.self.view_is) (stored-naming c.self.inside.storage c.self.invariant)

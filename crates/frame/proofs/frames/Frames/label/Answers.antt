@@ -8,7 +8,7 @@ label-requires c =
     let k = c.self.inside.storage in
     let e = entry_from_ref c.entry-entry.result c.entry-entry.ensures.0 in
     label-below e.kind e.label_count (length (labels_in k)) (sym c.has_label.ensures ∙ c.if-has_label.true)
-    (label-below-at (length (names_in k)) (length (labels_in k)) k.entries c.self.invariant.stored.kept.coded (c.args.at - 1) e c.entry-entry.ensures.1)
+    (label-below-at (length (names_in k)) (length (labels_in k)) k.entries c.self.invariant.kept.coded (c.args.at - 1) e c.entry-entry.ensures.1)
 
 pub returns-then-has_label : goal.returns-then-has_label
 returns-then-has_label c = λ s h.

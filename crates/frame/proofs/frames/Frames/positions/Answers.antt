@@ -8,7 +8,7 @@ loop-label-preserved c =
     c.loop-label.invariant c.in_ok-push.ensures.items c.position.ensures
 
 pub returns-in_err-push-clause-legal : goal.returns-in_err-push-clause-legal
-returns-in_err-push-clause-legal c = rw (← c.self.view_is) (all-legal c.self.inside.storage c.self.invariant.stored)
+returns-in_err-push-clause-legal c = rw (← c.self.view_is) (all-legal c.self.inside.storage c.self.invariant)
 
 pub returns-clause-legal : goal.returns-clause-legal
-returns-clause-legal c = rw (← c.self.view_is) (all-legal c.self.inside.storage c.self.invariant.stored)
+returns-clause-legal c = rw (← c.self.view_is) (all-legal c.self.inside.storage c.self.invariant)

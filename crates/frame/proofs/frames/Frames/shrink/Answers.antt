@@ -1,5 +1,4 @@
-use Rattle.frame.proofs.ShrunkStorage.{IsShrunk, frames-shrunk}
-use Rattle.frame.proofs.KeptFactLemmas.{with-facts, without-facts}
+use Rattle.frame.proofs.ShrunkStorage.{IsShrunk, stored-shrunk}
 use Rattle.frame.proofs.frames.Frames.shrink.Goals as goal
 
 pub invariant_of-self : goal.invariant_of-self
@@ -8,14 +7,12 @@ invariant_of-self c =
     let shrunk : IsShrunk c.self.inside.storage c.shrink_lists.new.storage = record {
       numbering = e.numbering;
       positions = e.positions;
-      symbols = e.symbols;
+      floats = e.floats;
       replaced = e.replaced;
       ends = e.ends;
       entries = e.entries;
       disjoints = e.disjoints;
       variables = e.variables;
-      essentials = e.essentials;
       last_active = e.last_active;
     } in
-    let frames = frames-shrunk c.self.inside.storage c.shrink_lists.new.storage c.self.inside.essential_sets c.shrink.new.self (without-facts c.self.inside.storage c.self.inside.essential_sets c.self.inside.kept_facts c.self.invariant) shrunk c.shrink.ensures.sets c.shrink.ensures.kept in
-    with-facts c.shrink_lists.new.storage c.shrink.new.self c.self.inside.kept_facts frames (rw (e.numbering, e.entries) c.self.invariant.facts)
+    stored-shrunk c.self.inside.storage c.shrink_lists.new.storage c.self.invariant shrunk

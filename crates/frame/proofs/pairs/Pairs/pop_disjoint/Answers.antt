@@ -12,7 +12,7 @@ entry-requires c =
 
 pub invariant_of-self : goal.invariant_of-self
 invariant_of-self c =
-    let b = (back c.self.inside.storage.now (c.self.inside.at - 1) c.last_active_at-last.result c.last_active_at-last.ensures c.if-last-eq0.false).1 in (c.self.invariant.0, c.self.invariant.1, b.above, omega (arith, b.within, c.self.invariant.3), c.self.invariant.4)
+    let b = (back c.self.inside.storage.now (c.self.inside.at - 1) c.last_active_at-last.result c.last_active_at-last.ensures c.if-last-eq0.false).1 in (c.self.invariant.0, c.self.invariant.1, b.above, omega (arith, b.within, c.self.invariant.3))
 
 pub returns-clause-fewer : goal.returns-clause-fewer
 returns-clause-fewer c =
