@@ -1,5 +1,5 @@
 -- The `$e` that match a pattern, and the hypotheses of an assertion.
-use Rattle.finding.proofs.Words.{◌≡◌, ℕ, zero, suc, ◌+◌, ◌-◌, ◌<◌, ◌≤◌, Bool, true, false, ◌&&◌, nat_le, nat_lt, List, [], ◌∷◌, ◌++◌, length, take, drop, map, filter, Option, Some, None, slice_get, get_or, refl, ap, sym, ◌∙◌, subst, arith, inl, inr, length-append, lt-ltb, take-take, take-append-drop, ◌↔◌, ◌⊎◌, IsFalse, IsTrue, OnOk, Result, option_map, option_and_then, and_from, and_parts, both_ways, cases_lt, ltb-true, get_or-take, get_or_append_left, get_or_at, same_Some, slice_get-get_or, on_ok_weaker, Stmt, Ess, Database, active_from, bare, bares, before, is_active, is_essential, stays_open, stmt_at, stmt_at-bares, is_hypothesis_kind, hypotheses, is_hypothesis, In, IsActiveAt, active-members, members-active, active-stays, get-take, cut-here, drop-front, length-cut, stays_open-front, Part, AreMatchingEssentials, AreRecorded, IsTrimmedLength, IsActiveHypothesis, SearchQuery, WithHypotheses, HasPattern, essential_expr, essential_at, SomeEssentialHas}
+use Rattle.finding.proofs.LineWords.{◌≡◌, ℕ, zero, suc, ◌+◌, ◌-◌, ◌<◌, ◌≤◌, Bool, true, false, ◌&&◌, nat_le, nat_lt, List, [], ◌∷◌, ◌++◌, length, take, drop, map, filter, Option, Some, None, slice_get, get_or, refl, ap, sym, ◌∙◌, subst, arith, inl, inr, length-append, lt-ltb, take-take, take-append-drop, ◌↔◌, ◌⊎◌, IsFalse, IsTrue, OnOk, Result, option_map, option_and_then, and_from, and_parts, both_ways, cases_lt, ltb-true, get_or-take, get_or_append_left, get_or_at, same_Some, slice_get-get_or, on_ok_weaker, Stmt, Ess, Database, active_from, bare, bares, before, is_active, is_essential, stays_open, stmt_at, stmt_at-bares, is_hypothesis_kind, hypotheses, is_hypothesis, In, IsActiveAt, active-members, members-active, active-stays, get-take, cut-here, drop-front, length-cut, stays_open-front, Part, AreMatchingEssentials, AreRecorded, IsTrimmedLength, IsActiveHypothesis, SearchQuery, WithHypotheses, HasPattern, essential_expr, essential_at, SomeEssentialHas}
 
 -- ---- one statement
 

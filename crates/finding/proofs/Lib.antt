@@ -1,4 +1,4 @@
-pub mod Words
+pub mod LineWords
 pub mod LineLemmas
 pub mod HypothesesLemmas
 mod Rows

@@ -1,5 +1,5 @@
 -- The lines of the statements that are found, one statement after another.
-use Rattle.finding.proofs.Words.{◌≡◌, ℕ, zero, suc, ◌+◌, ◌<◌, ◌≤◌, Bool, true, false, List, [], ◌∷◌, ◌++◌, length, take, Option, Some, None, slice_get, get_or, refl, ap, sym, ◌∙◌, subst, arith, append_assoc, inl, inr, ◌↔◌, ◌⊎◌, IsTrue, IfOk, Result, both_ways, slice_get-get_or, IfOk-weaker, append-nil, take_all, Stmt, Database, stmt_at, line_if, IsLineIf, AreFoundLines}
+use Rattle.finding.proofs.LineWords.{◌≡◌, ℕ, zero, suc, ◌+◌, ◌<◌, ◌≤◌, Bool, true, false, List, [], ◌∷◌, ◌++◌, length, take, Option, Some, None, slice_get, get_or, refl, ap, sym, ◌∙◌, subst, arith, append_assoc, inl, inr, ◌↔◌, ◌⊎◌, IsTrue, IfOk, Result, both_ways, slice_get-get_or, IfOk-weaker, append-nil, take_all, Stmt, Database, stmt_at, line_if, IsLineIf, AreFoundLines}
 
 -- the line of a statement, by the answer of the test
 judged : (matches : Type 0) (is : Bool) (s : Stmt) → IsTrue is ↔ matches → IsLineIf matches s (line_if is s)

@@ -1,5 +1,5 @@
 -- The lines of statements that are found.
-use Rattle.finding.proofs.Words.{◌≡◌, [], ◌∷◌, codes, refl, Axiom, Prove, Open, found_line}
+use Rattle.finding.proofs.LineWords.{◌≡◌, [], ◌∷◌, codes, refl, Axiom, Prove, Open, found_line}
 
 -- a line for an axiom and for a theorem, and none for any other statement
 axiom_line : found_line (Axiom (codes "tze") (codes "term" ∷ codes "0" ∷ [])) ≡ codes "tze term 0\n"

@@ -1,4 +1,4 @@
-use Rattle.finding.proofs.Words.{subst, ◌↔◌, IsTrue, HasPattern}
+use Rattle.finding.proofs.LineWords.{subst, ◌↔◌, IsTrue, HasPattern}
 use Rattle.finding.proofs.HypothesesLemmas.{kept-one}
 use Rattle.finding.proofs.hypotheses.record_essential.Goals as goal
 

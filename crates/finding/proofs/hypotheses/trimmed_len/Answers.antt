@@ -1,4 +1,4 @@
-use Rattle.finding.proofs.Words.{arith, both_ways}
+use Rattle.finding.proofs.LineWords.{arith, both_ways}
 use Rattle.finding.proofs.HypothesesLemmas.{gone-more, left-none}
 use Rattle.finding.proofs.hypotheses.trimmed_len.Goals as goal
 

@@ -1,4 +1,4 @@
-use Rattle.finding.proofs.Words.{ℕ, ◌<◌, ◌≤◌, length, get_or, IsActiveHypothesis}
+use Rattle.finding.proofs.LineWords.{ℕ, ◌<◌, ◌≤◌, length, get_or, IsActiveHypothesis}
 use Rattle.finding.proofs.hypotheses.trimmed_len.Given as goal
 
 abbrev pub invariant-loop-remaining : goal.invariant-loop-remaining

@@ -1,4 +1,4 @@
-use Rattle.finding.proofs.Words.{◌+◌, List, ℕ, length, refl, sym, subst, ◌↔◌, IfOk, IsTrue, bares, AreMatchingEssentials, AreRecorded, IsTrimmedLength, HasPattern, AssertionMatches}
+use Rattle.finding.proofs.LineWords.{◌+◌, List, ℕ, length, refl, sym, subst, ◌↔◌, IfOk, IsTrue, bares, AreMatchingEssentials, AreRecorded, IsTrimmedLength, HasPattern, AssertionMatches}
 use Rattle.finding.proofs.LineLemmas.{either_later}
 use Rattle.finding.proofs.HypothesesLemmas.{kept-left, some-left}
 use Rattle.finding.proofs.lines.assertion_matches.Goals as goal

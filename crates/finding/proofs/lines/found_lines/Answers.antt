@@ -1,4 +1,4 @@
-use Rattle.finding.proofs.Words.{refl, arith, IsMatch}
+use Rattle.finding.proofs.LineWords.{refl, arith, IsMatch}
 use Rattle.finding.proofs.LineLemmas.{lines_on, lines_all, stands_at}
 use Rattle.finding.proofs.lines.found_lines.Goals as goal
 

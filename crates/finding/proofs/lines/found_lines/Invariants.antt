@@ -1,4 +1,4 @@
-use Rattle.finding.proofs.Words.{take, AreRecorded, IsMatch, AreFoundLines}
+use Rattle.finding.proofs.LineWords.{take, AreRecorded, IsMatch, AreFoundLines}
 use Rattle.finding.proofs.lines.found_lines.Given as goal
 
 abbrev pub invariant-loop-index : goal.invariant-loop-index

@@ -1,4 +1,4 @@
-use Rattle.finding.proofs.Words.{◌≡◌, true, is_assertion}
+use Rattle.finding.proofs.LineWords.{◌≡◌, true, is_assertion}
 use Rattle.finding.proofs.LineLemmas.{with_assertion}
 use Rattle.finding.proofs.lines.is_match.Goals as goal
 

@@ -1,4 +1,4 @@
-use Rattle.finding.proofs.Words.{sym, subst, OnOk, AreRecorded}
+use Rattle.finding.proofs.LineWords.{sym, subst, OnOk, AreRecorded}
 use Rattle.finding.proofs.lines.record_statement.Goals as goal
 
 pub returns-in-WithHypotheses : goal.returns-in-WithHypotheses
