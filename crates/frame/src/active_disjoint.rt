@@ -1,8 +1,8 @@
 //! Images that are disjoint by the `$d` active at a position.
-ghost use Rattle.std.specs.Prelude.{◌≡◌, length};
-ghost use Rattle.{names.specs.Codes.decode, frame.specs.Below.AreBelow, frame.specs.Disjoint.are_disjoint};
+ghost use Rattle.std.specs.Prelude.{◌≡◌, ◌==◌, length};
+ghost use Rattle.{std.specs.List.list_any, names.specs.Codes.decode, frame.specs.Below.AreBelow, frame.specs.Disjoint.are_disjoint};
 
-use crate::pairs::{Pairs, contains};
+use crate::pairs::Pairs;
 
 impl<'a> Pairs<'a> {
     /// Returns whether every variable of one list and every variable of the other are different and
@@ -29,4 +29,11 @@ impl<'a> Pairs<'a> {
         }
         true
     }
+}
+
+/// Returns whether x is in the list.
+fn contains(codes: &[u32], x: u32) -> bool
+    ensures { result ≡ list_any (λ y. x == y) codes.now }
+{
+    codes.iter().any(|y| x == *y)
 }

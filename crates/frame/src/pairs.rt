@@ -116,10 +116,6 @@ impl<'a> Pairs<'a> {
     }
 }
 
-/// The largest number of symbols of a `$d` that are compared one by one; in a longer one a symbol
-/// is looked up in the stack of the symbol.
-const MAX_SCANNED: usize = 8;
-
 /// Returns whether one of the `$d` at these positions has the symbol.
 ///
 /// Cost: the number of the `$d`, times a binary search.
@@ -136,25 +132,14 @@ fn any_has(storage: &Storage, mut stack: PositionStack<'_>, code: u32) -> bool
     false
 }
 
-/// Returns whether the `$d` at a position has the symbol.
+/// Returns whether the `$d` at a position has the symbol: then it is on top of the symbol's stack.
 fn has_symbol(storage: &Storage, at: u32, code: u32) -> bool
     requires stored { AreStored storage.now }
     requires disjoint { IsOfKind is_disj (statements_of storage.now) at }
     ensures { result ≡ has_code storage.now.entries code at }
 {
-    let symbols = storage.entries.entry(at as usize - 1).symbols;
-    if symbols.len() <= MAX_SCANNED {
-        return contains(symbols, code);
-    }
     match storage.disjoints.stack(code, at as usize + 1).last() {
         Some(last) => last == at,
         None => false,
     }
-}
-
-/// Returns whether x is in the list.
-pub(crate) fn contains(codes: &[u32], x: u32) -> bool
-    ensures { result ≡ list_any (λ y. x == y) codes.now }
-{
-    codes.iter().any(|y| x == *y)
 }
