@@ -1,8 +1,8 @@
 -- The effect of one item on results of numbers, stated over the names that they stand for.
 -- Metamath, 4.2.6 and appendix B; `Machine` defines the same over names.
 -- The program knows only the numbers of symbols, here called codes; each has a name.
-use Rattle.std.specs.Prelude.{◌≡◌, ℕ, ◌<◌, ◌≤◌, Bool, true, false, IsTrue, List, [], length, map, drop, get_or}
-use Rattle.verify.specs.Words.{Name, Stmt, Expr, Database, before, AllBelow, Item, Cite, decode, HasLegalProperties, HasAssertion, Numbered}
+use Rattle.std.specs.Prelude.{◌≡◌, ℕ, ◌<◌, ◌≤◌, Bool, true, false, IsTrue, List, [], length, map, drop, get_or, Some}
+use Rattle.verify.specs.Words.{Name, Stmt, Expr, Database, before, AllBelow, Item, Cite, decode, HasLegalProperties, HasAssertion, Numbered, AssertionView, IsViewOf, stmt_at}
 use Rattle.verify.specs.declared.label_table.LabelEntry.{LabelEntry}
 use Rattle.verify.specs.declared.label_table.LabelEntry.TheVariants.{Nothing}
 use Rattle.verify.specs.LabelTable.{IsEntry}
@@ -82,3 +82,8 @@ pub record MayCite (context : ProofContext) (a : ℕ) (about : Numbered) (st : R
   pub named : AreNamed context.frames.now.names st
   pub assertion : (s : Stmt) × HasAssertion context.frames.now.statements a s
   pub earlier : a < context.at
+
+-- these are the parts of the assertion at a, if a statement is there
+abbrev pub IsCitedView : ProofContext → ℕ → AssertionView → Type 0
+IsCitedView context a c =
+    (s : Stmt) → stmt_at context.frames.now.statements a ≡ Some s → IsViewOf context.frames.now.statements context.frames.now.names a s c

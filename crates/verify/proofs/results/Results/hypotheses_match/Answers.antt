@@ -1,13 +1,12 @@
-use Rattle.verify.proofs.Words.{◌≡◌, sym, subst, same_Some, ℕ, ◌-◌, [], true, false, length, map, get_or, Some, ap, arith, refl, ◌∙◌, slice_get_within, stands-within, decode, images_of_names, Hypothesis, Float, Essential, HypothesisMatches, top}
+use Rattle.verify.proofs.Words.{◌≡◌, subst, ℕ, ◌-◌, [], true, false, length, map, get_or, Some, ap, arith, refl, ◌∙◌, slice_get_within, stands-within, decode, images_of_names, Hypothesis, Float, Essential, HasSeenEssentials, HypothesisMatches, top}
 use Rattle.verify.proofs.Named.{all-drop}
 use Rattle.verify.proofs.ResultPlaceLemmas.{seen_place}
-use Rattle.verify.proofs.ReadImageLemmas.{present-at, fits-essential, one-more}
-use Rattle.verify.proofs.LongHypothesesLemmas.{images-iff}
-use Rattle.verify.proofs.results.Results.hypotheses_match.Goals.{in-Essential+else-expr-ge-LONG_EXPRESSION+else-not-matches, in_default}
+use Rattle.verify.proofs.ReadImageLemmas.{present-at, fits-essential, images-iff, none-match, one-more}
+use Rattle.verify.proofs.results.Results.hypotheses_match.Goals.{in-Essential+else-not-matches, in_default}
 use Rattle.verify.proofs.results.Results.hypotheses_match.Goals as goal
 
-pub loop-k-init : goal.loop-k-init
-loop-k-init c j h less at = let x = c.requires.leading.floats j less in subst (λ g. HypothesisMatches c.args.frames.now.statements (images_of_names c.args.frames.now.names c.args.self.now.images) g (get_or (map (decode c.args.frames.now.names) (top (length c.args.hypotheses.now) c.args.self.now.results.stack)) j [])) (same_Some (Float x.0) h (sym x.1 ∙ at)) tt
+pub returns-then-not-has_essentials : goal.returns-then-not-has_essentials
+returns-then-not-has_essentials c = (λ t. none-match _ _ _ _ (subst (HasSeenEssentials c.args.hypotheses.now) c.if-not-has_essentials.true c.requires.essentials), λ f. refl)
 
 pub expr-expr-requires : goal.expr-expr-requires
 expr-expr-requires c =
@@ -29,7 +28,7 @@ pub loop-k-preserved : goal.loop-k-preserved
 loop-k-preserved c =
     let P : ℕ → Hypothesis → Type 0 = λ j h. HypothesisMatches c.args.frames.now.statements (images_of_names c.args.frames.now.names c.args.self.now.images) h (get_or (map (decode c.args.frames.now.names) (top (length c.args.hypotheses.now) c.args.self.now.results.stack)) j []) in
     elim c.match-get.branch [
-      | in-Essential+else-expr-ge-LONG_EXPRESSION+else-not-matches w ↦
+      | in-Essential+else-not-matches w ↦
           let at = c.get.ensures ∙ ap Some w.in-Essential.is in
           let place = seen_place c.self.inside.symbols c.self.inside.stack.items c.deref.result.now c.args.self.now.results.stack (c.len.result - c.len-2.result) c.len-2.result c.loop-k.k _ c.deref.ensures.value (ap (λ v. v.results.stack) c.self.view_is) (omega (arith, c.len.ensures)) (omega (arith, c.requires.count, c.len-2.ensures)) (let w = slice_get_within c.args.hypotheses.now c.loop-k.k c.get.result c.get.ensures in omega (arith, w, c.len-2.ensures)) c.self.invariant.kept.stack_within in
           let iff = fits-essential _ _ _ _ _ _ _ _ _ _ _ c.requires.legal.distinct c.requires.present at w.expr-expr.ensures.same w.expr-expr.ensures.codes c.requires.over (all-drop _ (length c.args.self.now.results.stack - length c.args.hypotheses.now) _ c.requires.named)

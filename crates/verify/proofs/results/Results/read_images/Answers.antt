@@ -1,4 +1,4 @@
-use Rattle.verify.proofs.Words.{◌≡◌, ℕ, ◌-◌, ◌≤◌, Option, is_some, List, Result, Ok, Err, IfOk, length, map, take, drop, AllocError, arith, ap, subst, ◌∙◌, length-map, SymbolRange, symbols_in, images_at, AreWithin, Hypothesis, Reads, top, ReadsAll}
+use Rattle.verify.proofs.Words.{◌≡◌, ℕ, Bool, ◌-◌, ◌≤◌, Option, is_some, List, Result, Ok, Err, IfOk, length, map, take, drop, AllocError, arith, ap, subst, ◌∙◌, length-map, SymbolRange, symbols_in, images_at, AreWithin, Hypothesis, Reads, top, ReadsAll}
 use Rattle.verify.proofs.ResultPlaceLemmas.{last-within, last-count, seen_eq, kept-read}
 use Rattle.verify.proofs.ReadImageLemmas.{reads-seen}
 use Rattle.verify.proofs.results.Results.read_images.Goals as goal
@@ -6,7 +6,7 @@ use Rattle.verify.proofs.results.Results.read_images.Goals as goal
 last-of : (xs : List ℕ) (s e : List SymbolRange) (stack : List (List ℕ)) (k m n : ℕ) → e ≡ s → map (symbols_in xs) s ≡ stack → m ≤ length stack → k ≡ length s - m → m ≡ n → length (take (length e - k) (drop k e)) ≡ n
 last-of xs s e stack k m n same seen few from count = rw (same) (last-count k m s (omega (arith, ap length seen, length-map s (symbols_in xs), few)) from) ∙ count
 
-reads-result : (r : Result (Option ℕ) AllocError) (xs ds typecodes : List ℕ) (hs : List Hypothesis) (places : List SymbolRange) (images : List (ℕ × SymbolRange)) (rs : List (List ℕ)) → ds ≡ xs → length places ≡ length hs → AreWithin (length xs) places
+reads-result : (r : Result (Option Bool) AllocError) (xs ds typecodes : List ℕ) (hs : List Hypothesis) (places : List SymbolRange) (images : List (ℕ × SymbolRange)) (rs : List (List ℕ)) → ds ≡ xs → length places ≡ length hs → AreWithin (length xs) places
     → map (symbols_in xs) places ≡ rs → IfOk r (λ o. ReadsAll (is_some o) (length hs) ds typecodes hs places images) → IfOk r (λ o. Reads (is_some o) typecodes hs rs (images_at xs images))
 reads-result (Err e) xs ds typecodes hs places images rs d count within seen h = tt
 reads-result (Ok o) xs ds typecodes hs places images rs d count within seen h =
