@@ -1,4 +1,5 @@
 -- The image of a symbol in the tables of images.
+use Rattle.std.proofs.lemmas.Bool.{ne_eqb}
 use Rattle.subst.proofs.Words.{◌≡◌, ℕ, zero, suc, ◌+◌, ◌<◌, ◌≤◌, ◌==◌, true, false, cond, nat_eq, List, [], ◌∷◌, ◌++◌, length, get_or, replicate, slice_set, Option, Some, None, refl, lookup, sym, ◌∙◌, ap, arith, inl, inr, cases_Bool, SymbolRange, images_in_round, AreUpTo, nat_tests}
 
 abbrev pub image_in : ℕ → List ℕ → List SymbolRange → ℕ → Option SymbolRange
@@ -58,6 +59,15 @@ placed-later round later k (r ∷ rounds) (p ∷ places) u h =
 pub up_to-later : (round later : ℕ) (rounds : List ℕ) → AreUpTo round rounds → round ≤ later → AreUpTo later rounds
 up_to-later round later [] u h = tt
 up_to-later round later (r ∷ rounds) u h = (let low = u.0 in omega (arith, low, h), up_to-later round later rounds u.1 h)
+
+up_to-at : (round : ℕ) (rounds : List ℕ) (x : ℕ) → AreUpTo round rounds → get_or rounds x 0 ≤ round
+up_to-at round [] x u = omega arith
+up_to-at round (r ∷ rounds) zero u = u.0
+up_to-at round (r ∷ rounds) (suc x) u = up_to-at round rounds x u.1
+
+-- none has a later round
+pub none-later : (round later : ℕ) (rounds : List ℕ) (x : ℕ) → AreUpTo round rounds → round < later → (get_or rounds x 0 == later) ≡ false
+none-later round later rounds x u h = let low = up_to-at round rounds x u in ne_eqb (get_or rounds x 0) later (λ e. omega (arith, low, h, e))
 
 -- ---- longer tables
 

@@ -1,11 +1,6 @@
--- Images stored by number, symbols appended to a buffer, and the tables of the cache. Public
--- clauses cite only `Appends` of these.
+-- Images stored by number, symbols appended to a buffer, and the variables of images. Public clauses
+-- cite only `Appends` of these.
 pub mod ImageTables
 pub mod Written
-pub mod VariablePlaces
-pub mod PlaceSets
-pub mod SymbolMarks
-pub mod DisjointRows
-pub mod ImageVariables
-pub mod ImagePairs
-pub mod DisjointTables
+pub mod SymbolSets
+pub mod VariableLists

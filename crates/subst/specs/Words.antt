@@ -8,6 +8,5 @@ pub use Rattle.mm_lex.specs.Alphabet.{Name, has_name, name_eq}
 pub use Rattle.mm_read.specs.Statements.{Database, Expr}
 pub use Rattle.names.specs.Codes.{AreCodes, AreDistinct, decode, name_at}
 pub use Rattle.scope.specs.Active.{is_variable}
-pub use Rattle.std.specs.Int.{bit_at}
-pub use Rattle.std.specs.List.{All, Contains, filter, list_all, list_any}
+pub use Rattle.std.specs.List.{list_all, list_any}
 pub use Rattle.std.specs.Map.{lookup}

@@ -1,6 +1,5 @@
 //! Ranges of a buffer of symbols.
-ghost use Rattle.std.specs.Prelude.{◌≡◌, ◌≤◌, ◌==◌, length};
-ghost use Rattle.std.specs.List.{list_any};
+ghost use Rattle.std.specs.Prelude.{◌≡◌, ◌≤◌, length};
 ghost use Rattle.subst.specs.SymbolRanges.{symbols_in};
 ghost use Rattle.subst.specs.declared.buffer.TheConstants.{SYMBOLS_LIMIT};
 
@@ -29,12 +28,4 @@ pub fn range_between(start: usize, end: usize) -> SymbolRange
         start: start as u32,
         end: end as u32,
     }
-}
-
-/// Returns whether a symbol is in the list.
-#[inline(always)]
-pub(crate) fn contains(symbols: &[u32], symbol: u32) -> bool
-    ensures { result ≡ list_any (λ x. x == symbol) symbols.now }
-{
-    symbols.iter().any(|x| *x == symbol)
 }

@@ -1,7 +1,7 @@
 use Rattle.subst.proofs.Words.{◌≡◌, ℕ, nat_lt, ◌≤◌, ◌==◌, List, length, get_or, true, false, Bool, sym, ◌∙◌, ap, arith, nat_eq, cond, Some, None, lookup, eq-eqb, SymbolRange, images_in_round, nat_tests}
 use Rattle.subst.proofs.ImageTableLemmas.{placed-image, image-none, image-at}
 use Rattle.subst.proofs.image_ranges.ImageTable.get.Goals as goal
-use Rattle.subst.proofs.BitsLemmas.{differ}
+use Rattle.std.proofs.lemmas.Bool.{ne_eqb}
 
 -- a symbol in the tables has its image exactly if it was set in this round
 found : (round : ℕ) (rounds : List ℕ) (ranges : List SymbolRange) (x r : ℕ) (p : SymbolRange) (b : Bool) → true ≡ nat_lt x (length rounds) → length rounds ≤ length ranges → r ≡ get_or rounds x r → (r == round) ≡ b
@@ -17,7 +17,7 @@ returns-in-Some c =
 
 pub returns-in_default : goal.returns-in_default
 returns-in_default c =
-    found c.self.inside.round c.self.inside.rounds.now c.self.inside.ranges.now c.args.symbol c.in-Some.round.now (record { start = 0; end = 0 }) false c.in-Some.ensures.lookup.0 c.self.invariant c.in-Some.ensures.lookup.1 (differ _ _ c.if-round-self.false)
+    found c.self.inside.round c.self.inside.rounds.now c.self.inside.ranges.now c.args.symbol c.in-Some.round.now (record { start = 0; end = 0 }) false c.in-Some.ensures.lookup.0 c.self.invariant c.in-Some.ensures.lookup.1 (ne_eqb _ _ c.if-round-self.false)
     ∙ ap (λ (ps : List (ℕ × SymbolRange)). lookup (nat_eq c.args.symbol) ps) c.self.view_is
 
 pub returns-in_default-2 : goal.returns-in_default-2

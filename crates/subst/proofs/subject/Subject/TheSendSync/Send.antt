@@ -1,5 +1,0 @@
--- The statements that contracts see own nothing, so they may go to another thread.
-use Rattle.subst.proofs.Words.{IsSend, owning_send, the_row, the_type}
-
-pub send : IsSend the_row
-send = owning_send the_type tt (λ d. tt) (λ k x w. tt)
