@@ -1,5 +1,5 @@
 -- The citation of an assertion when the results are lists of numbers.
-use Rattle.verify.proofs.Words.{◌≡◌, ℕ, ◌-◌, ◌<◌, ◌≤◌, Bool, true, false, List, [], ◌++◌, length, map, get_or, slice_get, Some, sym, ◌∙◌, ap, subst, arith, length-append, length-map, map-append, Name, Stmt, Expr, Database, stmt_at, before, expr_of, is_assertion, is_variable, name_at, decode, HasAssertion, mandatory_groups, Images, applied, CodeImages, code_apply, images_of_names, are_groups_disjoint, Carries, IsInstance, premises, HasLegalProperties, Cite, substitution_over_names, Float, IsWellTyped, IsTyped, AreRead, HypothesesMatch, named, AreNamed, RunsItemByNumber, Results, Cites, of_hypothesis, of_assertion, below, top, Adds, some-same, true≢false, AreOver, MayCite, HasCited, Assertion, ProofContext, Numbered, IsViewOf, AssertionView}
+use Rattle.verify.proofs.Words.{◌≡◌, ℕ, ◌-◌, ◌<◌, ◌≤◌, Bool, true, false, List, [], ◌++◌, length, map, get_or, slice_get, Some, sym, ◌∙◌, ap, subst, arith, length-append, length-map, map-append, Name, Stmt, Expr, Database, stmt_at, before, expr_of, is_assertion, is_variable, name_at, decode, HasAssertion, mandatory_groups, Images, applied, CodeImages, code_apply, images_of_names, are_groups_disjoint, Carries, IsInstance, premises, HasLegalProperties, Cite, substitution_over_names, Float, IsWellTyped, IsTyped, AreRead, HypothesesMatch, named, AreNamed, RunsItemByNumber, Results, Cites, of_hypothesis, of_assertion, below, top, Adds, some-same, true≢false, AreOver, MayCite, HasCited, Assertion, ProofContext, IsViewOf, AssertionView}
 use Rattle.verify.proofs.LabelTableLemmas.{has_with}
 use Rattle.verify.proofs.RequiredHypotheses.{required-lengths}
 use Rattle.verify.proofs.CitingLemmas.{of_variables, apply-τ, disjoint-τ, premises-read, premise-typed, fits-agree, conclusion-agrees, disjoint-agrees, read-over}
@@ -97,7 +97,7 @@ module _ (S : Database) (names : List Name) (at a : ℕ) (s : Stmt) (c : Asserti
   goes-not old new label an carries has none = λ next p. absurd (none p.1 (meets-step old label p.0 p.1 an carries has p.2))
 
 -- the lemmas above, from the conditions under which the code cites (`MayCite`)
-module _ (t : ProofContext) (a : ℕ) (about : Numbered) (old : Results ℕ) (may : MayCite t a about old) (c : AssertionView) (cited : (s : Stmt) → stmt_at t.frames.now.statements a ≡ Some s → IsViewOf t.frames.now.statements t.frames.now.names a s c) where
+module _ (t : ProofContext) (a : ℕ) (old : Results ℕ) (may : MayCite t a old) (c : AssertionView) (cited : (s : Stmt) → stmt_at t.frames.now.statements a ≡ Some s → IsViewOf t.frames.now.statements t.frames.now.names a s c) where
   abbrev count : ℕ
   count = length c.hypotheses
 

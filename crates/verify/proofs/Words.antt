@@ -17,7 +17,6 @@ pub use Rattle.frame.specs.WellTyped.{HasFloat, IsWellTyped, BeginsWithNoVariabl
 pub use Rattle.frame.specs.Citations.{Carries, IsHypothesis, IsInstance, AreImagesOfVariables, expr_at, is_hypothesis_kind, option_expr, premises}
 pub use Rattle.frame.specs.Disjoint.{are_disjoint, are_groups_disjoint, is_group_disjoint}
 pub use Rattle.frame.specs.FrameOf.{HasAssertion, hypotheses, is_hypothesis, mandatory_groups}
-pub use Rattle.frame.specs.Parts.{Numbered}
 pub use Rattle.frame.specs.Substitution.{CodeImages, Images, apply as applied, code_apply, code_image, image, images_of_names}
 pub use Rattle.mm_lex.specs.Alphabet.{Name, has_name, name_eq}
 pub use Rattle.mm_read.specs.Statements.{Database, Expr}
@@ -56,7 +55,7 @@ pub use Rattle.std.specs.Prelude.{Err, MatchResult, None, Option, Vec, bytes_eq,
 pub use Rattle.std.specs.declared.alloc.AllocError.{AllocError}
 pub use Rattle.std.specs.declared.alloc.Global.{Global}
 pub use Rattle.subst.proofs.GroupLemmas.{below-drop, below-group}
-pub use Rattle.subst.proofs.ImageRangesLemmas.{image-more, image-none, image-some, inside-more, inside-none}
+pub use Rattle.subst.proofs.ImageRangesLemmas.{image-none, image-some, inside-more, inside-none}
 pub use Rattle.subst.proofs.SubstitutionLemmas.{image-decode, image-named, image-unnamed, substitution_over_names}
 pub use Rattle.subst.proofs.SymbolRangeLemmas.{length-seen, map-seen-more, seen-get, seen-last, within-at, within-drop, within-get, within-snoc, within-take, within-weaken}
 pub use Rattle.subst.specs.Images.{AreOver}
@@ -74,7 +73,7 @@ pub use Rattle.verify.specs.Machine.{Cites, IsSaved, Results, Runs, State, RunsI
 pub use Rattle.verify.specs.Plan.{AreOrdered, IsAfter, IsPlan, built, built_from, derive, pick, trees_of}
 pub use Rattle.verify.specs.Proves.{Proves, label_or_empty, mandatory_labels}
 pub use Rattle.verify.specs.ReadPlaces.{BeginsWith, IsMistyped, ReadTo, ReadsAll, tail_of}
-pub use Rattle.verify.specs.ResultPlaces.{Adds, AreHeld, AreResultRanges, HeldResults, CachesLast, Marks, Recalls, UnchangedUnlessDone, below, held, results_in, top}
+pub use Rattle.verify.specs.ResultPlaces.{Adds, AreResultRanges, CachesLast, Marks, Recalls, UnchangedUnlessDone, below, results_in, top}
 pub use Rattle.verify.specs.Right.{Derives, IsProvable, IsRight, IsSmall, IsAnswerTo, weight_limit}
 pub use Rattle.verify.specs.Spells.{IsCitable, Spells, SpellsAll, cites_assertion, cites_hypothesis, marks, recalls, spells_more, spells_none}
 pub use Rattle.verify.specs.RunsItemByNumber.{AreCached, AreNamedAndCached, AreNamed, HasCited, IsCached, MayCite, RunsItemByNumber, RunsItemWithTable, without_cached, named}

@@ -1,6 +1,6 @@
 //! Runs one item of a proof.
 
-ghost use Rattle.std.specs.Prelude.{◌≡◌, List, IfOk};
+ghost use Rattle.std.specs.Prelude.{List, IfOk};
 ghost use Rattle.mm_lex.specs.Alphabet.{Name};
 ghost use Rattle.proof_code.specs.ItemNumbers.{item_of};
 ghost use Rattle.verify.specs.RunsItemByNumber.{AreNamedAndCachedIn, AreNamed, RunsItemIn, HasCitedIn, IsCitedView, IsReady, MayCite};
@@ -46,11 +46,10 @@ fn cite_by_view(
     cited: &AssertionView<'_>,
     results: &mut Results,
 ) -> Result<bool, AllocError>
-    requires may { MayCite context.now position results.old.about results.old.results }
+    requires may { MayCite context.now position results.old.results }
     requires cited { IsCitedView context.now position cited.now }
     ensures effect { IfOk result (HasCitedIn context.now (LabelEntry.Assertion position) results.old.results results.new.results) }
     ensures unchanged { IfOk result (λ ok. UnchangedUnlessDone ok results.old.results results.new.results) }
-    ensures about { results.new.about ≡ context.now.pairs }
 {
     let count = cited.hypotheses.len();
     if count > results.len() {
@@ -65,7 +64,7 @@ fn cite_by_view(
     if !results.are_disjoint(&context.pairs, &cited.groups)? {
         return Ok(false);
     }
-    results.apply(&context.pairs, count, cited.conclusion)
+    results.apply(count, cited.conclusion)
 }
 
 /// Cites an assertion: pops the results for its hypotheses and pushes its result. Returns `false`
@@ -78,10 +77,9 @@ fn cite(
     position: usize,
     buffers: &mut Buffers,
 ) -> Result<bool, AllocError>
-    requires may { MayCite context.now position buffers.old.results.about buffers.old.results.results }
+    requires may { MayCite context.now position buffers.old.results.results }
     ensures effect { IfOk result (HasCitedIn context.now (LabelEntry.Assertion position) buffers.old.results.results buffers.new.results.results) }
     ensures unchanged { IfOk result (λ ok. UnchangedUnlessDone ok buffers.old.results.results buffers.new.results.results) }
-    ensures about { buffers.new.results.about ≡ context.now.pairs }
 {
     let cited = cited_view(context.frames, position, &mut buffers.frame_buffers)?;
     cite_by_view(context, position, &cited, &mut buffers.results)
@@ -96,15 +94,14 @@ fn cite_entry(
     entry: LabelEntry,
     buffers: &mut Buffers,
 ) -> Result<bool, AllocError>
-    requires ready { IsReady context.now buffers.old.results.about }
+    requires ready { IsReady context.now }
     requires named { AreNamed context.now.frames.now.names buffers.old.results.results }
     requires entry { (label : Name) × IsEntry context.now.frames.now.statements context.now.at label entry }
-    ensures about { buffers.new.results.about ≡ context.now.pairs }
     ensures effect { IfOk result (HasCitedIn context.now entry buffers.old.results.results buffers.new.results.results) }
     ensures unchanged { IfOk result (λ ok. UnchangedUnlessDone ok buffers.old.results.results buffers.new.results.results) }
 {
     match entry {
-        LabelEntry::Hypothesis(i) => buffers.results.add(&context.pairs, context.frames.expr(i)),
+        LabelEntry::Hypothesis(i) => buffers.results.add(context.frames.expr(i)),
         LabelEntry::Assertion(position) => cite(context, position, buffers),
         LabelEntry::Nothing => Ok(false),
     }
@@ -122,10 +119,9 @@ pub fn step(
     number: u32,
     buffers: &mut Buffers,
 ) -> Result<bool, AllocError>
-    requires ready { IsReady context.now buffers.old.results.about }
+    requires ready { IsReady context.now }
     requires named_and_cached { AreNamedAndCachedIn context.now table.now buffers.old.results.results }
     requires entries { (labels : List Name) × AreEntries context.now.frames.now.statements context.now.at labels table.now }
-    ensures about { buffers.new.results.about ≡ context.now.pairs }
     ensures effect { (labels : List Name) → AreEntries context.now.frames.now.statements context.now.at labels table.now
         → IfOk result (RunsItemIn context.now table.now (item_of labels number) buffers.old.results.results buffers.new.results.results) }
     ensures unchanged { IfOk result (λ ok. UnchangedUnlessDone ok buffers.old.results.results buffers.new.results.results) }

@@ -45,12 +45,12 @@ pub(crate) fn run_items(
     numbers: &[u32],
     buffers: &mut Buffers,
 ) -> Result<usize, AllocError>
-    requires ready { IsReady context.now context.now.pairs }
+    requires ready { IsReady context.now }
     requires entries { (labels : List Name) × AreEntries context.now.frames.now.statements context.now.at labels table.now }
     ensures stops { (labels : List Name) → AreEntries context.now.frames.now.statements context.now.at labels table.now
         → IfOk result (λ done. StopsIn context.now (items_of labels numbers.now) done (without_cached (length table.now) buffers.new.results.results)) }
 {
-    buffers.results.start(&context.pairs, table.len())?;
+    buffers.results.start(table.len())?;
     for (done, number) in numbers.iter().enumerate() {
         if !step(context, table, *number, buffers)? {
             return Ok(done);

@@ -2,7 +2,7 @@
 
 ghost use Rattle.std.specs.Prelude.{take, List, ℕ, ◌≡◌, ◌<◌, ◌≤◌, ◌↔◌, ◌∷◌, ◌++◌, [], length, slice_get, replicate, nat_eq, ◌==◌, Some, is_some, if◌then◌else◌, IfOk, IfSome, OnOk, OnErr, IsTrue};
 ghost use Rattle.frame.specs.AtPosition.{HasLegalProperties};
-ghost use Rattle.frame.specs.Below.{AllBelow, AreBelow};
+ghost use Rattle.frame.specs.Below.{AllBelow};
 ghost use Rattle.frame.specs.Substitution.{code_apply};
 ghost use Rattle.names.specs.Codes.{AreDistinct};
 ghost use Rattle.std.specs.Map.{lookup};
@@ -18,7 +18,7 @@ use frame::{Frames, Pairs};
 use std::alloc::{AllocError, Global};
 use std::marker::Model;
 use subst::{
-    Buffer, DisjointCache, ImageRanges, SYMBOLS_LIMIT, SymbolRange, range_between, symbols_at,
+    Buffer, DisjointImages, ImageRanges, SYMBOLS_LIMIT, SymbolRange, range_between, symbols_at,
 };
 
 /// The results of a proof so far, with their symbols in one buffer, and the images that were read
@@ -40,18 +40,18 @@ pub struct Results {
     weight: usize,
     /// How many symbols the buffer may hold.
     symbols_limit: usize,
-    /// The variables of long results, and the pairs of variables that were found to be disjoint.
-    cache: DisjointCache,
+    /// Decides whether images are disjoint.
+    disjoint_images: DisjointImages,
 }
 
 impl Model for Results {
-    ghost use Rattle.verify.specs.ResultPlaces.{AreHeld, HeldResults, held};
+    ghost use Rattle.verify.specs.ResultPlaces.{AreResultRanges, HeldResults, held};
 
     ghost Value = { HeldResults };
 
-    ghost view = { λ a. held a.symbols a.images a.stack.items a.saved.items a.weight a.cache.about };
+    ghost view = { λ a. held a.symbols a.images a.stack.items a.saved.items a.weight };
 
-    ghost invariant = { λ a. AreHeld a.cache.buffer_symbols a.symbols a.images a.stack.items a.saved.items a.weight };
+    ghost invariant = { λ a. AreResultRanges a.symbols a.images a.stack.items a.saved.items a.weight };
 }
 
 impl Results {
@@ -66,7 +66,7 @@ impl Results {
             saved: Vec::new(alloc),
             weight: 0,
             symbols_limit: SYMBOLS_LIMIT,
-            cache: DisjointCache::new(alloc),
+            disjoint_images: DisjointImages::new(alloc),
         }
     }
 
@@ -78,16 +78,13 @@ impl Results {
         self.symbols_limit = symbols_limit;
     }
 
-    /// Begins a proof under the pairs that are active at its statement: removes all results and
-    /// images, and adds an empty saved result for each of `label_count` labels. Keeps the memory.
+    /// Begins a proof: removes all results and images, and adds an empty saved result for each of
+    /// `label_count` labels. Keeps the memory.
     ///
-    /// Errors: an allocation fails. Cost: the number of labels, and that of
-    /// `DisjointCache::begin_proof`.
-    pub fn start(&mut self, pairs: &Pairs<'_>, label_count: usize) -> Result<(), AllocError>
-        ensures about { self.new.about ≡ pairs.now }
-        ensures results { OnOk result (self.new.results ≡ record { stack = []; saved = replicate label_count []; weight = 0 }) }
+    /// Errors: an allocation fails. Cost: the number of labels.
+    pub fn start(&mut self, label_count: usize) -> Result<(), AllocError>
+        ensures { OnOk result (self.new.results ≡ record { stack = []; saved = replicate label_count []; weight = 0 }) }
     {
-        self.cache.begin_proof(pairs);
         self.images.clear();
         self.symbols.truncate(0);
         self.stack.clear();
@@ -103,10 +100,7 @@ impl Results {
     /// Errors: an allocation fails, or the buffer would exceed the limit set by `set_symbol_limit`.
     /// Cost: its symbols.
     #[inline(never)]
-    pub fn add(&mut self, pairs: &Pairs<'_>, expr: &[u32]) -> Result<bool, AllocError>
-        requires about { self.old.about ≡ pairs.now }
-        requires below { AreBelow (length pairs.now.names) expr.now }
-        ensures about { self.new.about ≡ self.old.about }
+    pub fn add(&mut self, expr: &[u32]) -> Result<bool, AllocError>
         ensures adds { IfOk result (λ ok. Adds ok self.old.results self.new.results self.old.results.stack expr.now) }
         ensures unchanged { IfOk result (λ ok. UnchangedUnlessDone ok self.old.results self.new.results) }
     {
@@ -120,7 +114,6 @@ impl Results {
         self.symbols.extend(expr)?;
         self.weight += expr.len();
         let place = range_between(start, self.symbols.len());
-        self.cache.record_expr(pairs, &self.symbols, expr, place)?;
         self.stack.push(place)?;
         Ok(true)
     }
@@ -128,8 +121,7 @@ impl Results {
     /// Saves the last result for the label with that number, from 0.
     pub fn cache_last(&mut self, label: usize)
         requires { label < length self.old.results.saved }
-        ensures about { self.new.about ≡ self.old.about }
-        ensures keeps { CachesLast self.old.results self.new.results label }
+        ensures { CachesLast self.old.results self.new.results label }
     {
         if let Some(&place) = self.stack.last() {
             self.saved[label] = place;
@@ -141,7 +133,6 @@ impl Results {
     /// Errors: an allocation fails.
     #[inline(always)]
     pub fn mark(&mut self) -> Result<bool, AllocError>
-        ensures about { self.new.about ≡ self.old.about }
         ensures marks { IfOk result (λ ok. Marks ok self.old.results self.new.results) }
         ensures unchanged { IfOk result (λ ok. UnchangedUnlessDone ok self.old.results self.new.results) }
     {
@@ -160,7 +151,6 @@ impl Results {
     #[inline(always)]
     pub fn recall(&mut self, index: usize, label_count: usize) -> Result<Option<bool>, AllocError>
         requires { label_count ≤ length self.old.results.saved }
-        ensures about { self.new.about ≡ self.old.about }
         ensures finds { IfOk result (λ done. RecallsAt done label_count self.old.results self.new.results index) }
         ensures unchanged { IfOk result (λ done. IfSome done (λ ok. UnchangedUnlessDone ok self.old.results self.new.results)) }
     {
@@ -198,7 +188,6 @@ impl Results {
         requires same { length typecodes.now ≡ length hypotheses.now }
         requires count { length hypotheses.now ≤ length self.old.results.stack }
         requires different { AreDifferent hypotheses.now }
-        ensures about { self.new.about ≡ self.old.about }
         ensures same { self.new.results ≡ self.old.results }
         ensures read { IfOk result (λ r. Reads (is_some r) typecodes.now hypotheses.now (top (length hypotheses.now) self.old.results.stack) self.new.images) }
         ensures essentials { IfOk result (λ r. IfSome r (HasSeenEssentials hypotheses.now)) }
@@ -245,21 +234,20 @@ impl Results {
     /// Returns whether the images of each two variables of each group are disjoint at the statement
     /// of the pairs.
     ///
-    /// Errors: an allocation fails. Cost: that of `DisjointCache::are_groups_disjoint`.
+    /// Errors: an allocation fails. Cost: that of `DisjointImages::are_groups_disjoint`.
     #[inline(always)]
     pub fn are_disjoint(
         &mut self,
         pairs: &Pairs<'_>,
         groups: &Groups<'_>,
     ) -> Result<bool, AllocError>
-        requires about { self.old.about ≡ pairs.now }
         requires distinct { AreDistinct pairs.now.names }
         requires over { AreOver pairs.now.names self.old.images }
         requires below { AllBelow (length pairs.now.names) groups.now }
         ensures same { self.new ≡ self.old }
         ensures disjoint { IfOk result (λ ok. ok ≡ are_numbered_groups_disjoint pairs.now self.old.images groups.now) }
     {
-        self.cache
+        self.disjoint_images
             .are_groups_disjoint(pairs, groups, &self.symbols, &self.images)
     }
 
@@ -267,19 +255,10 @@ impl Results {
     /// returns `false` if the proof would be too heavy.
     ///
     /// Errors: an allocation fails, or the buffer would exceed the limit set by `set_symbol_limit`.
-    /// Cost: the symbols read and written, and that of `DisjointCache::record_result`.
+    /// Cost: the symbols of the expression, and those written.
     #[inline(always)]
-    pub fn apply(
-        &mut self,
-        pairs: &Pairs<'_>,
-        count: usize,
-        expr: &[u32],
-    ) -> Result<bool, AllocError>
-        requires about { self.old.about ≡ pairs.now }
-        requires over { AreOver pairs.now.names self.old.images }
-        requires below { AreBelow (length pairs.now.names) expr.now }
-        requires count { count ≤ length self.old.results.stack }
-        ensures about { self.new.about ≡ self.old.about }
+    pub fn apply(&mut self, count: usize, expr: &[u32]) -> Result<bool, AllocError>
+        requires { count ≤ length self.old.results.stack }
         ensures adds { IfOk result (λ ok. Adds ok self.old.results self.new.results (below count self.old.results.stack) (code_apply self.old.images expr.now)) }
         ensures unchanged { IfOk result (λ ok. UnchangedUnlessDone ok self.old.results self.new.results) }
     {
@@ -295,20 +274,17 @@ impl Results {
         }
         let place = range_between(start, self.symbols.len());
         self.weight += self.symbols.len() - start;
-        self.cache
-            .record_result(pairs, &self.symbols, &self.images, expr, place)?;
         truncate_and_push(&mut self.stack, keep, place)?;
         Ok(true)
     }
 
-    /// Removes all results and images. Frees the memory of the results, and that of the cache as
-    /// `DisjointCache::release` does, but not that of the table of images.
+    /// Removes all results and images. Frees their memory, but not that of the table of images.
     ///
     /// Does not allocate.
     pub fn release(&mut self, alloc: Global)
         ensures { self.new.results ≡ record { stack = []; saved = []; weight = 0 } }
     {
-        self.cache.release(alloc);
+        self.disjoint_images.release(alloc);
         self.images.clear();
         self.symbols = Buffer::new(alloc);
         self.stack = Vec::new(alloc);

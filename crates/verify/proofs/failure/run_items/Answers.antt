@@ -6,9 +6,8 @@ use Rattle.verify.proofs.failure.run_items.Goals as goal
 pub loop-done-init : goal.loop-done-init
 loop-done-init c = (
   c.requires.ready.legal,
-  start-known c.args.context.now.frames.now.statements c.args.context.now.frames.now.names c.args.context.now.at c.args.table.now c.start.new.self.results c.in_ok-start.ensures.results,
-  λ labels are. reached-start c.args.context.now.frames.now.statements c.args.context.now.frames.now.names c.args.context.now.at c.requires.ready.legal (without_cached (length c.args.table.now) c.start.new.self.results) (start-behind (length c.args.table.now) c.start.new.self.results c.in_ok-start.ensures.results),
-  c.start.ensures.about,
+  start-known c.args.context.now.frames.now.statements c.args.context.now.frames.now.names c.args.context.now.at c.args.table.now c.start.new.self.results c.in_ok-start.ensures,
+  λ labels are. reached-start c.args.context.now.frames.now.statements c.args.context.now.frames.now.names c.args.context.now.at c.requires.ready.legal (without_cached (length c.args.table.now) c.start.new.self.results) (start-behind (length c.args.table.now) c.start.new.self.results c.in_ok-start.ensures),
 )
 
 -- a property of the answer of a step holds of the flag that it returned
@@ -29,7 +28,6 @@ loop-done-preserved c = (
       (went c.step.result c.in_ok-step.field-0 true
       (λ v. RunsItemWithTable v c.args.context.now.frames.now.statements c.args.context.now.at c.args.context.now.frames.now.names c.args.table.now (item_of labels (get_or c.args.numbers.now c.loop-done.done 0)) c.loop-done.buffers.results.results c.step.new.buffers.results.results)
       (c.step.ensures.effect labels are) c.in_ok-step.was c.if-not-branch.false).0),
-  c.step.ensures.about,
 )
 
 pub returns-then-not-branch : goal.returns-then-not-branch

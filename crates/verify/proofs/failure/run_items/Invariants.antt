@@ -9,4 +9,3 @@ invariant-loop-done l =
     × AreNamedAndCached l.context.frames.now.statements l.context.at l.context.frames.now.names l.table l.buffers.results.results
     × ((labels : List Name) → AreEntries l.context.frames.now.statements l.context.at labels l.table
     → Reached l.context.frames.now.statements l.context.frames.now.names l.context.at legal (map (item_of labels) (take l.done l.numbers)) (without_cached (length l.table) l.buffers.results.results))
-    × (l.buffers.results.about ≡ l.context.pairs)

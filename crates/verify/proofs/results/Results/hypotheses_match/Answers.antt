@@ -14,12 +14,12 @@ expr-expr-requires c =
     stands-within c.args.frames.now.statements c.in-Essential.position s.0 s.1
 
 pub matches-requires-clause-range : goal.matches-requires-clause-range
-matches-requires-clause-range c = (seen_place c.self.inside.symbols c.self.inside.stack.items c.deref.result.now c.args.self.now.results.stack (c.len.result - c.len-2.result) c.len-2.result c.loop-k.k _ c.deref.ensures.value (ap (λ v. v.results.stack) c.self.view_is) (omega (arith, c.len.ensures)) (omega (arith, c.requires.count, c.len-2.ensures)) (let w = slice_get_within c.args.hypotheses.now c.loop-k.k c.get.result c.get.ensures in omega (arith, w, c.len-2.ensures)) c.self.invariant.kept.stack_within).0
+matches-requires-clause-range c = (seen_place c.self.inside.symbols c.self.inside.stack.items c.deref.result.now c.args.self.now.results.stack (c.len.result - c.len-2.result) c.len-2.result c.loop-k.k _ c.deref.ensures.value (ap (λ v. v.results.stack) c.self.view_is) (omega (arith, c.len.ensures)) (omega (arith, c.requires.count, c.len-2.ensures)) (let w = slice_get_within c.args.hypotheses.now c.loop-k.k c.get.result c.get.ensures in omega (arith, w, c.len-2.ensures)) c.self.invariant.stack_within).0
 
 pub returns-then-not-matches : goal.returns-then-not-matches
 returns-then-not-matches c =
     let at = c.get.ensures ∙ ap Some c.in-Essential.is in
-    let place = seen_place c.self.inside.symbols c.self.inside.stack.items c.deref.result.now c.args.self.now.results.stack (c.len.result - c.len-2.result) c.len-2.result c.loop-k.k _ c.deref.ensures.value (ap (λ v. v.results.stack) c.self.view_is) (omega (arith, c.len.ensures)) (omega (arith, c.requires.count, c.len-2.ensures)) (let w = slice_get_within c.args.hypotheses.now c.loop-k.k c.get.result c.get.ensures in omega (arith, w, c.len-2.ensures)) c.self.invariant.kept.stack_within in
+    let place = seen_place c.self.inside.symbols c.self.inside.stack.items c.deref.result.now c.args.self.now.results.stack (c.len.result - c.len-2.result) c.len-2.result c.loop-k.k _ c.deref.ensures.value (ap (λ v. v.results.stack) c.self.view_is) (omega (arith, c.len.ensures)) (omega (arith, c.requires.count, c.len-2.ensures)) (let w = slice_get_within c.args.hypotheses.now c.loop-k.k c.get.result c.get.ensures in omega (arith, w, c.len-2.ensures)) c.self.invariant.stack_within in
     let iff = fits-essential _ _ _ _ _ _ _ _ _ _ _ c.requires.legal.distinct c.requires.present at c.expr-expr.ensures.same c.expr-expr.ensures.codes c.requires.over (all-drop _ (length c.args.self.now.results.stack - length c.args.hypotheses.now) _ c.requires.named)
     refl (place.1 ∙ ap (λ n. get_or (top n c.args.self.now.results.stack) c.loop-k.k []) c.len-2.ensures) (images-iff _ _ _ _ _ (ap (λ v. v.images) c.self.view_is) c.matches.ensures) in
     (λ t. (let e : false ≡ true = t in cc), λ fit. let t = iff.1 (fit.each c.loop-k.k (Essential c.in-Essential.position) at) in let u = c.if-not-matches.true in cc)
@@ -30,7 +30,7 @@ loop-k-preserved c =
     elim c.match-get.branch [
       | in-Essential+else-not-matches w ↦
           let at = c.get.ensures ∙ ap Some w.in-Essential.is in
-          let place = seen_place c.self.inside.symbols c.self.inside.stack.items c.deref.result.now c.args.self.now.results.stack (c.len.result - c.len-2.result) c.len-2.result c.loop-k.k _ c.deref.ensures.value (ap (λ v. v.results.stack) c.self.view_is) (omega (arith, c.len.ensures)) (omega (arith, c.requires.count, c.len-2.ensures)) (let w = slice_get_within c.args.hypotheses.now c.loop-k.k c.get.result c.get.ensures in omega (arith, w, c.len-2.ensures)) c.self.invariant.kept.stack_within in
+          let place = seen_place c.self.inside.symbols c.self.inside.stack.items c.deref.result.now c.args.self.now.results.stack (c.len.result - c.len-2.result) c.len-2.result c.loop-k.k _ c.deref.ensures.value (ap (λ v. v.results.stack) c.self.view_is) (omega (arith, c.len.ensures)) (omega (arith, c.requires.count, c.len-2.ensures)) (let w = slice_get_within c.args.hypotheses.now c.loop-k.k c.get.result c.get.ensures in omega (arith, w, c.len-2.ensures)) c.self.invariant.stack_within in
           let iff = fits-essential _ _ _ _ _ _ _ _ _ _ _ c.requires.legal.distinct c.requires.present at w.expr-expr.ensures.same w.expr-expr.ensures.codes c.requires.over (all-drop _ (length c.args.self.now.results.stack - length c.args.hypotheses.now) _ c.requires.named)
           refl (place.1 ∙ ap (λ n. get_or (top n c.args.self.now.results.stack) c.loop-k.k []) c.len-2.ensures) (images-iff _ _ _ _ _ (ap (λ v. v.images) c.self.view_is) w.matches.ensures) in
           one-more P _ c.loop-k.k (Essential w.in-Essential.position) at c.loop-k.invariant (iff.0 w.if-not-matches.false)
