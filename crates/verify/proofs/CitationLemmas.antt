@@ -1,5 +1,5 @@
 -- The citation of an assertion when the results are lists of numbers.
-use Rattle.verify.proofs.Words.{◌≡◌, ℕ, ◌-◌, ◌<◌, ◌≤◌, Bool, true, false, List, [], ◌++◌, length, map, get_or, slice_get, Some, sym, ◌∙◌, ap, subst, arith, length-append, length-map, map-append, Name, Stmt, Expr, Database, stmt_at, before, expr_of, is_assertion, is_variable, name_at, decode, HasAssertion, mandatory_groups, Images, applied, CodeImages, code_apply, images_of_names, are_groups_disjoint, Carries, IsInstance, premises, HasLegalProperties, Cite, substitution_over_names, Float, IsWellTyped, IsTyped, AreRead, HypothesesMatch, named, AreNamed, RunsItemByNumber, Results, Cites, of_hypothesis, of_assertion, below, top, Adds, some-same, true≢false, AreOver, MayCite, HasCited, Assertion, ProofContext, Numbered, IsCitingViewOf, AssertionView}
+use Rattle.verify.proofs.Words.{◌≡◌, ℕ, ◌-◌, ◌<◌, ◌≤◌, Bool, true, false, List, [], ◌++◌, length, map, get_or, slice_get, Some, sym, ◌∙◌, ap, subst, arith, length-append, length-map, map-append, Name, Stmt, Expr, Database, stmt_at, before, expr_of, is_assertion, is_variable, name_at, decode, HasAssertion, mandatory_groups, Images, applied, CodeImages, code_apply, images_of_names, are_groups_disjoint, Carries, IsInstance, premises, HasLegalProperties, Cite, substitution_over_names, Float, IsWellTyped, IsTyped, AreRead, HypothesesMatch, named, AreNamed, RunsItemByNumber, Results, Cites, of_hypothesis, of_assertion, below, top, Adds, some-same, true≢false, AreOver, MayCite, HasCited, Assertion, ProofContext, IsViewOf, AssertionView}
 use Rattle.verify.proofs.LabelTableLemmas.{has_with}
 use Rattle.verify.proofs.RequiredHypotheses.{required-lengths}
 use Rattle.verify.proofs.CitingLemmas.{of_variables, apply-τ, disjoint-τ, premises-read, premise-typed, fits-agree, conclusion-agrees, disjoint-agrees, read-over}
@@ -15,7 +15,7 @@ pub record Meets (S : Database) (names : List Name) (at a : ℕ) (c : AssertionV
   pub disjoint : (ρ : CodeImages) → AreRead c.typecodes.now c.hypotheses (top (length c.hypotheses) stack) ρ → are_groups_disjoint (before S at) (images_of_names names ρ) (map (decode names) c.groups) ≡ true
   pub gives : (ρ : CodeImages) → AreRead c.typecodes.now c.hypotheses (top (length c.hypotheses) stack) ρ → f ≡ decode names (code_apply ρ c.conclusion.now)
 
-module _ (S : Database) (names : List Name) (at a : ℕ) (s : Stmt) (c : AssertionView) (legal : HasLegalProperties S names) (bound : IsWellTyped S a s) (is : IsCitingViewOf S names a s c) where
+module _ (S : Database) (names : List Name) (at a : ℕ) (s : Stmt) (c : AssertionView) (legal : HasLegalProperties S names) (bound : IsWellTyped S a s) (is : IsViewOf S names a s c) where
   abbrev n : ℕ
   n = length c.hypotheses
 
@@ -42,7 +42,7 @@ module _ (S : Database) (names : List Name) (at a : ℕ) (s : Stmt) (c : Asserti
         many = many;
         typed = premise-typed S names a s legal.distinct bound c.typecodes.now c.hypotheses is.numbered_hypotheses es count low σ fits.of_variables (sym cut);
         fits = λ ρ read. fits-agree S names a s legal.distinct bound c.typecodes.now c.hypotheses is.numbered_hypotheses es count low σ fits.of_variables (sym cut) ρ read;
-        disjoint = λ ρ read. is.groups (before S at) (images_of_names names ρ)
+        disjoint = λ ρ read. ap (are_groups_disjoint (before S at) (images_of_names names ρ)) is.groups
             ∙ (disjoint-agrees S names a s legal.distinct bound c.typecodes.now c.hypotheses is.numbered_hypotheses es count low σ fits.of_variables (sym cut) ρ read (before S at) ∙ fits.disjoint);
         gives = λ ρ read. gives ∙ (conclusion-agrees S names a s legal.distinct bound c.typecodes.now c.hypotheses is.numbered_hypotheses es count low σ fits.of_variables (sym cut) ρ read ∙ sym (conclusion-named ρ));
       }
@@ -72,7 +72,7 @@ module _ (S : Database) (names : List Name) (at a : ℕ) (s : Stmt) (c : Asserti
       let τ = only (is_variable (before S a)) (images_of_names names ρ) in
       let prem : premises S a s τ ≡ map (decode names) es = premises-read S names a s legal.distinct bound c.typecodes.now c.hypotheses is.numbered_hypotheses es count ρ read fits in
       let away : are_groups_disjoint (before S at) τ (mandatory_groups (before S a) s) ≡ true
-      = disjoint-τ S names a s legal.distinct bound c.typecodes.now c.hypotheses is.numbered_hypotheses es count ρ read (before S at) (mandatory_groups (before S a) s) ∙ (sym (is.groups (before S at) (images_of_names names ρ)) ∙ disjoint) in
+      = disjoint-τ S names a s legal.distinct bound c.typecodes.now c.hypotheses is.numbered_hypotheses es count ρ read (before S at) (mandatory_groups (before S a) s) ∙ (sym (ap (are_groups_disjoint (before S at) (images_of_names names ρ)) is.groups) ∙ disjoint) in
       let whole : map (decode names) old.stack ≡ map (decode names) (below n old.stack) ++ premises S a s τ
       = ap (map (decode names)) (halves n old.stack) ∙ (map-append (decode names) (below n old.stack) es ∙ ap (λ v. map (decode names) (below n old.stack) ++ v) (sym prem)) in
       let gives : decode names e ≡ applied τ (expr_of s) = conclusion-named ρ ∙ sym (apply-τ S names a s legal.distinct bound c.typecodes.now c.hypotheses is.numbered_hypotheses es count ρ read (expr_of s)) in (
@@ -97,7 +97,7 @@ module _ (S : Database) (names : List Name) (at a : ℕ) (s : Stmt) (c : Asserti
   goes-not old new label an carries has none = λ next p. absurd (none p.1 (meets-step old label p.0 p.1 an carries has p.2))
 
 -- the lemmas above, from the conditions under which the code cites (`MayCite`)
-module _ (t : ProofContext) (a : ℕ) (about : Numbered) (old : Results ℕ) (may : MayCite t a about old) (c : AssertionView) (cited : (s : Stmt) → stmt_at t.frames.now.statements a ≡ Some s → IsCitingViewOf t.frames.now.statements t.frames.now.names a s c) where
+module _ (t : ProofContext) (a : ℕ) (old : Results ℕ) (may : MayCite t a old) (c : AssertionView) (cited : (s : Stmt) → stmt_at t.frames.now.statements a ≡ Some s → IsViewOf t.frames.now.statements t.frames.now.names a s c) where
   abbrev count : ℕ
   count = length c.hypotheses
 

@@ -1,6 +1,6 @@
 -- The table of the meanings of labels, and the search for a listed label among the mandatory
 -- hypotheses, whose positions rise.
-use Rattle.verify.proofs.Words.{◌≡◌, ℕ, suc, ◌+◌, ◌-◌, ◌<◌, Bool, true, false, nat_lt, List, [], ◌∷◌, ◌++◌, length, take, get_or, Option, Some, None, refl, zero, ◌≤◌, cond, ◌==◌, ◌||◌, filter, map, slice_index_or, MatchResult, Result, Ok, Err, drop, sym, ◌∙◌, ap, subst, arith, length-append, true≢false, append_assoc, get_or_default, take_more, length-drop, drop_more, list_any, IsNonDecreasing, nat_tests, bytes_eq-Decides, or_right, Name, name_eq, has_name, Stmt, Database, stmt_at, is_assertion, active_from, before, label_of, stays_open, Carries, IsHypothesis, is_hypothesis_kind, HasAssertion, hypotheses, is_hypothesis, HasLabelsOnce, IsPosition, ArePositions, IsCitable, LabelEntry, Nothing, Assertion, IsEntry, AreEntries, is_hypothesis_among, some-same, get-front, get-last, share_label, label_or_empty, mandatory_labels, IsProvable, or-false, get_or-append_right, get_or-map, length-map, get_or_from_slice_get, slice_get_within, slice_get, list_any-append, both_ways}
+use Rattle.verify.proofs.Words.{◌≡◌, ℕ, suc, ◌+◌, ◌-◌, ◌<◌, Bool, true, false, nat_lt, List, [], ◌∷◌, ◌++◌, length, take, get_or, Option, Some, None, refl, zero, ◌≤◌, cond, ◌==◌, ◌||◌, filter, map, slice_index_or, MatchResult, Result, Ok, Err, drop, sym, ◌∙◌, ap, subst, arith, length-append, true≢false, append_assoc, get_or_default, take_more, length-drop, drop_more, list_any, IsNonDecreasing, nat_tests, bytes_eq-Decides, or_right, Name, name_eq, has_name, Stmt, Database, stmt_at, is_assertion, active_from, before, label_of, stays_open, Carries, IsHypothesis, is_hypothesis_kind, HasAssertion, hypotheses, is_hypothesis, HasLabelsOnce, IsPosition, ArePositions, IsCitable, LabelEntry, Nothing, Assertion, IsEntry, AreEntries, is_hypothesis_among, some-same, get-front, get-last, share_label, label_or_empty, mandatory_labels, IsProvable, or-false, list_any-append, both_ways}
 use Rattle.verify.specs.declared.label_table.LabelEntry.TheVariants.{Hypothesis}
 use Rattle.verify.proofs.MandatoryEntries.{IsMandatory, AreMandatory, labels_at, mandatory-of}
 use Rattle.verify.proofs.Decide.{not_both}
@@ -38,26 +38,6 @@ entries-more S at ls label es entry a is = record { count = counted; each = λ k
         subst (λ l. IsEntry S at l (get_or (es ++ entry ∷ []) k Nothing)) (sym (get-last ls label k [] same))
         (subst (IsEntry S at label) (sym (get-last es entry k Nothing (same ∙ sym c))) is)
 
--- two tables of labels, one after the other
-pub entries-join : (S : Database) (at : ℕ) (ls ms : List Name) (es fs : List LabelEntry) → AreEntries S at ls es → AreEntries S at ms fs → AreEntries S at (ls ++ ms) (es ++ fs)
-entries-join S at ls ms es fs a b = record { count = counted; each = λ k h. each k h (nat_lt k (length ls)) refl }
-  where
-    counted : length (es ++ fs) ≡ length (ls ++ ms)
-    counted = let p = length-append es fs in let q = length-append ls ms in let c = a.count in let d = b.count in omega (arith, p, q, c, d)
-
-    each : (k : ℕ) → k < length (ls ++ ms) → (t : Bool) → nat_lt k (length ls) ≡ t → IsEntry S at (get_or (ls ++ ms) k []) (get_or (es ++ fs) k Nothing)
-    each k h true q =
-        let lt : k < length ls = grind (arith, q) in
-        let c = a.count in
-        subst (λ l. IsEntry S at l (get_or (es ++ fs) k Nothing)) (sym (get-front ls ms k [] lt))
-        (subst (IsEntry S at (get_or ls k [])) (sym (get-front es fs k Nothing (omega (arith, lt, c)))) (a.each k lt))
-    each k h false q =
-        let over : length ls ≤ k = grind (arith, nat_tests) in
-        let all = length-append ls ms in
-        let c = a.count in
-        subst (λ l. IsEntry S at l (get_or (es ++ fs) k Nothing)) (sym (get_or-append_right ls ms (length ls) k [] refl over))
-        (subst (IsEntry S at (get_or ms (k - length ls) [])) (sym (get_or-append_right es fs (length ls) k Nothing c over)) (b.each (k - length ls) (omega (arith, all, h))))
-
 -- a table of the first labels with the meaning of the next label, which is found by its position
 pub table-more : (S : Database) (at : ℕ) (labels : List Name) (positions : List (Option ℕ)) (i : ℕ) (d : Option ℕ) (table table' : List LabelEntry) (entry : LabelEntry) → ArePositions S labels positions → i < length positions
     → AreEntries S at (take i labels) table → table' ≡ table ++ entry ∷ [] → ((label : Name) → IsPosition S label (get_or positions i d) → IsEntry S at label entry) → AreEntries S at (take (i + 1) labels) table'
@@ -73,17 +53,6 @@ pub entry_at : (S : Database) (at : ℕ) (labels : List Name) (table : List Labe
 entry_at S at labels table k d are h =
     let c = are.count in
     subst (IsEntry S at (get_or labels k [])) (get_or_default table k Nothing d h) (are.each k (omega (arith, h, c)))
-
--- a label whose index is that of a viewed hypothesis means this hypothesis
-pub viewed_entries-entry : (S : Database) (at : ℕ) (labels : List Name) (positions : List ℕ) (table : List LabelEntry) (k p : ℕ) → AreEntries S at labels (map Hypothesis positions ++ table) → slice_get positions k ≡ Some p
-    → IsEntry S at (get_or labels k []) (Hypothesis p)
-viewed_entries-entry S at labels positions table k p are there =
-    let within = slice_get_within positions k p there in
-    let long = length-map positions Hypothesis in
-    let all = length-append (map Hypothesis positions) table in
-    let same : get_or (map Hypothesis positions ++ table) k Nothing ≡ Hypothesis p =
-    get-front (map Hypothesis positions) table k Nothing (omega arith) ∙ (get_or-map Hypothesis positions k 0 Nothing within ∙ ap Hypothesis (get_or_from_slice_get positions k p 0 there)) in
-    subst (IsEntry S at (get_or labels k [])) same (entry_at S at labels (map Hypothesis positions ++ table) k Nothing are (omega arith))
 
 -- a number that is not 0 is the successor of the one before it
 pub suc_back : (n : ℕ) → (n ≡ 0 → ⊥) → n ≡ suc (n - 1)

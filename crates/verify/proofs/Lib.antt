@@ -7,12 +7,9 @@ pub mod ResultPlaceLemmas
 pub mod RequiredHypotheses
 pub mod ImageLemmas
 pub mod CitingLemmas
-pub mod KeptListsLemmas
-pub mod CitedPairLemmas
 pub mod CitationLemmas
 pub mod ReadImageLemmas
 pub mod Named
-mod LongHypothesesLemmas
 pub mod StepLemmas
 pub mod MandatoryEntries
 pub mod LabelTableLemmas

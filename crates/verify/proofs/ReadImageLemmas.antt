@@ -1,6 +1,6 @@
 -- Images are read from results, one hypothesis after another, and each `$e` is compared with its
 -- result.
-use Rattle.verify.proofs.Words.{◌≡◌, ℕ, zero, suc, ◌+◌, ◌-◌, ◌<◌, ◌≤◌, min, nat_eq, nat_lt, Bool, true, false, cond, List, [], ◌∷◌, length, map, take, drop, get_or, slice_get, Some, None, refl, ◌↔◌, IsTrue, sym, ◌∙◌, ap, subst, arith, true≢false, nat_tests, slice_get_within, slice_get-get_or, same_Some, drop_more, drop-take, drop-drop, typecode_of, code_image, applied, CodeImages, code_apply, images_of_names, SymbolRange, symbols_in, images_at, AreWithin, image-some, image-none, within-get, length-seen, Hypothesis, Float, Essential, AreDifferent, AreFloats, AreLeadingFloats, IsTyped, Reads, IsPresent, ArePresent, HypothesisMatches, tail_of, BeginsWith, IsMistyped, ReadTo, ReadsAll, some-same, decode-injective, Name, Stmt, Database, stmt_at, expr_of, decode, AreDistinct, AreBelow, AllBelow, expr_at, option_expr, AreOver, substitution_over_names, ◌^◌, lookup}
+use Rattle.verify.proofs.Words.{◌≡◌, ℕ, zero, suc, ◌+◌, ◌-◌, ◌<◌, ◌≤◌, nat_eq, nat_lt, Bool, true, false, cond, List, [], ◌∷◌, length, map, take, drop, get_or, slice_get, Some, None, refl, ◌↔◌, IsTrue, sym, ◌∙◌, ap, subst, arith, true≢false, nat_tests, slice_get_within, slice_get-get_or, same_Some, drop_more, drop-take, drop-drop, typecode_of, code_image, applied, Images, Expr, CodeImages, code_apply, images_of_names, SymbolRange, symbols_in, images_at, AreWithin, image-some, image-none, within-get, length-seen, Hypothesis, Float, Essential, AreDifferent, HasSeenEssentials, HasSeenEssentialsBefore, IsTyped, Reads, IsPresent, ArePresent, HypothesesMatch, HypothesisMatches, tail_of, BeginsWith, IsMistyped, ReadTo, ReadsAll, some-same, decode-injective, Name, Stmt, Database, stmt_at, expr_of, decode, AreDistinct, AreBelow, AllBelow, expr_at, option_expr, AreOver, substitution_over_names, lookup}
 use Rattle.verify.proofs.CitingLemmas.{get-decode, get-map-of}
 use Rattle.verify.proofs.Named.{all-at}
 use Rattle.verify.proofs.ImageLemmas.{apply-below, are-codes}
@@ -41,14 +41,6 @@ module _ (symbols typecodes : List ℕ) (hs : List Hypothesis) (places : List Sy
     own = λ x free. r.own x (λ k h. free k (omega (arith, h)));
   }
 
-  -- if the first i hypotheses are `$f` and the next is not, the next one adds no image
-  pub front-next : (n : ℕ) → i < 2 ^ 64 → AreLeadingFloats hs i → n ≡ min (i + 1) (2 ^ 64 - 1) → (images : List (ℕ × SymbolRange)) → ReadTo i symbols typecodes hs places images → ReadTo n symbols typecodes hs places images
-  front-next n low front is images r = split (nat_lt i n) refl
-    where
-      split : (b : Bool) → nat_lt i n ≡ b → ReadTo n symbols typecodes hs places images
-      split true e = let next : i + 1 ≡ n = grind (arith, e, is, low) in subst (λ m. ReadTo m symbols typecodes hs places images) next (other-next front.last images r)
-      split false e = let same : i ≡ n = grind (arith, e, is, low) in subst (λ m. ReadTo m symbols typecodes hs places images) same r
-
   pub read-whole : (images : List (ℕ × SymbolRange)) → length hs ≤ i → ReadTo i symbols typecodes hs places images → ReadTo (length hs) symbols typecodes hs places images
   read-whole images past r = record {
     each = λ k x p h. r.each k x p (omega (arith, h, past));
@@ -67,12 +59,21 @@ pub mistyped : (symbols typecodes : List ℕ) (hs : List Hypothesis) (places : L
     → IsTrue ok ↔ BeginsWith symbols (get_or typecodes k 0) (get_or places k d) → ok ≡ false → IsMistyped symbols typecodes hs places
 mistyped symbols typecodes hs places k x d ok same at begins fails = (k, x, get_or places k d, at, place-at hs places k (Float x) d same at, λ b. true≢false (sym (begins.1 b) ∙ fails))
 
-pub floats-next : (hs : List Hypothesis) (k x : ℕ) → slice_get hs k ≡ Some (Float x) → AreFloats hs k → AreFloats hs (k + 1)
-floats-next hs k x at before j less = split (nat_lt j k) refl
+-- the flag after one more hypothesis
+pub seen-next : (hs : List Hypothesis) (i : ℕ) (seen more : Bool) → HasSeenEssentialsBefore i hs seen → (IsTrue seen → IsTrue more) → ((p : ℕ) → slice_get hs i ≡ Some (Essential p) → IsTrue more) → HasSeenEssentialsBefore (i + 1) hs more
+seen-next hs i seen more before stays here k p less at = split (nat_lt k i) refl
   where
-    split : (b : Bool) → nat_lt j k ≡ b → (y : ℕ) × (slice_get hs j ≡ Some (Float y))
-    split true e = before j (grind (arith, e))
-    split false e = let same : j ≡ k = grind (arith, e, less) in (x, ap (slice_get hs) same ∙ at)
+    split : (b : Bool) → nat_lt k i ≡ b → IsTrue more
+    split true e = stays (before k p (grind (arith, e)) at)
+    split false e = let same : k ≡ i = grind (arith, e, less) in here p (ap (slice_get hs) (sym same) ∙ at)
+
+-- where there are no `$e`, each result for a `$e` matches
+pub none-match : (S : Database) (σ : Images) (hs : List Hypothesis) (rs : List Expr) → HasSeenEssentials hs false → HypothesesMatch S σ hs rs
+none-match S σ hs rs none = record { each = one }
+  where
+    one : (k : ℕ) (h : Hypothesis) → slice_get hs k ≡ Some h → HypothesisMatches S σ h (get_or rs k [])
+    one k (Float x) at = tt
+    one k (Essential p) at = absurd (true≢false (sym (none k p (slice_get_within hs k (Essential p) at) at)))
 
 -- ---- places as lists of symbols
 
@@ -147,6 +148,10 @@ fits-essential S names hs rs ρ ρ' k q r e b distinct present at same below ove
     subst (λ v. IsTrue b ↔ (v ≡ applied (images_of_names names ρ) (expr_at S q))) (ap (decode names) here ∙ sym (get-decode names rs k))
     (essential-iff S names ρ q s.0 r e b distinct s.1 (same s.0 s.1) below over (subst (AreBelow (length names)) (sym here) (all-at (length names) k rs low))
     (subst (λ σ. IsTrue b ↔ (r ≡ code_apply σ e)) images h))
+
+-- an expression is held against the result in its place
+pub images-iff : (b : Bool) (r e : List ℕ) (σ ρ : CodeImages) → σ ≡ ρ → IsTrue b ↔ (r ≡ code_apply σ e) → IsTrue b ↔ (r ≡ code_apply ρ e)
+images-iff b r e σ ρ images h = subst (λ τ. IsTrue b ↔ (r ≡ code_apply τ e)) images h
 
 -- a property of the first k hypotheses and of the next one holds of the first k + 1
 pub one-more : (P : ℕ → Hypothesis → Type 0) (hs : List Hypothesis) (k : ℕ) (here : Hypothesis) → slice_get hs k ≡ Some here → ((j : ℕ) (h : Hypothesis) → j < k → slice_get hs j ≡ Some h → P j h) → P k here

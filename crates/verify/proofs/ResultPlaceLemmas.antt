@@ -1,5 +1,5 @@
 -- Results as ranges of a buffer that grows.
-use Rattle.verify.proofs.Words.{◌≡◌, ℕ, zero, suc, ◌+◌, ◌-◌, ◌<◌, ◌≤◌, List, [], ◌∷◌, ◌++◌, length, map, take, drop, get_or, replicate, slice_get, slice_set, Some, refl, option_map, sym, ◌∙◌, ap, subst, append_assoc, arith, length-append, length-drop, length-map, map-set, take-map, drop-map, map_push, take_rest, slice_get-map, slice_get-get_or, get_or_from_slice_get, SymbolRange, symbols_in, AreWithin, AreInside, map-seen-more, within-weaken, within-snoc, within-take, within-drop, within-get, within-at, seen-get, length-seen, seen-last, inside-more, inside-none, Results, with_result, IsSaved, results_in, AreResultRanges, CachesLast, below, top, weight_limit, get-last}
+use Rattle.verify.proofs.Words.{◌≡◌, ℕ, zero, suc, ◌+◌, ◌-◌, ◌<◌, ◌≤◌, List, [], ◌∷◌, ◌++◌, length, map, take, drop, get_or, replicate, slice_get, slice_set, Some, refl, option_map, sym, ◌∙◌, ap, subst, arith, length-append, length-drop, length-map, map-set, take-map, drop-map, map_push, take_rest, slice_get-map, slice_get-get_or, get_or_from_slice_get, SymbolRange, symbols_in, AreWithin, AreInside, map-seen-more, within-weaken, within-snoc, within-take, within-drop, within-get, within-at, seen-get, length-seen, seen-last, inside-more, inside-none, Results, with_result, IsSaved, results_in, AreResultRanges, CachesLast, below, top, weight_limit, get-last}
 
 pub map-drop : {A B : Type 0} (f : A → B) (k : ℕ) (xs : List A) → map f (drop k xs) ≡ drop k (map f xs)
 map-drop f k xs = sym (drop-map f k xs)
@@ -22,13 +22,6 @@ grown-kept xs ys zs images stack saved w v k e weighs light =
       few = omega (arith, ap length e, length-append xs ys, few, weighs);
       light = light;
     }
-
--- the buffer still begins with the symbols that it had when the cache was filled
-pub recorded-more : (over xs ys zs : List ℕ) → (more : List ℕ) × (xs ≡ over ++ more) → zs ≡ xs ++ ys → (more : List ℕ) × (zs ≡ over ++ more)
-recorded-more over xs ys zs recorded e = (recorded.0 ++ ys, e ∙ (ap (λ v. v ++ ys) recorded.1 ∙ append_assoc over recorded.0 ys))
-
-pub recorded-none : (over xs : List ℕ) → over ≡ [] → (more : List ℕ) × (xs ≡ over ++ more)
-recorded-none over xs e = (xs, ap (λ v. v ++ xs) (sym e))
 
 -- the range of the appended symbols lies within the buffer
 pub new-place : (xs ys zs : List ℕ) (p : SymbolRange) → zs ≡ xs ++ ys → p.start ≡ length xs → p.end ≡ length zs → (p.start ≤ p.end) × (p.end ≤ length zs)

@@ -1,5 +1,5 @@
 -- The exits of a step in the code are steps of the machine.
-use Rattle.verify.proofs.Words.{◌≡◌, ℕ, suc, ◌+◌, ◌-◌, ◌<◌, ◌≤◌, Bool, true, false, List, [], ◌∷◌, ◌++◌, length, map, take, drop, get_or, Some, refl, IsTrue, nat_lt, nat_eq, replicate, slice_get, slice_set, sym, ◌∙◌, ap, subst, arith, true≢false, length-append, nat_tests, length-map, map-append, take-append-drop, take_all, take_more, same_from_push, map_push, append-nil, nil_from_length, drop_all, drop_more, map_more, drop-append-le, drop-set-lt, length-set, length-replicate, get_or-set_same, get_or-set_other, get_or-replicate, get_or_from_slice_get, get_or_default, slice_get-get_or, item-cite, item-recall, Name, Stmt, Database, stmt_at, expr_of, name_at, decode, Item, Cite, Recall, Results, State, start, Cites, of_hypothesis, of_assertion, premises, Expr, Runs, with_result, Adds, Marks, Recalls, CachesLast, AreBelow, AllBelow, named, AreNamed, RunsItemByNumber, without_cached, HasCited, IsCached, AreCached, AreNamedAndCached, RunsItemWithTable, HasLegalProperties, item_of, IsRight, weight_limit, decode-injective, below-group, LabelEntry, Nothing, IsEntry, AreEntries, get-front, length-drop, get_or-append_right, get_or-drop}
+use Rattle.verify.proofs.Words.{◌≡◌, ℕ, suc, ◌+◌, ◌-◌, ◌<◌, ◌≤◌, Bool, true, false, List, [], ◌∷◌, ◌++◌, length, map, take, drop, get_or, Some, refl, IsTrue, nat_lt, nat_eq, replicate, slice_get, slice_set, sym, ◌∙◌, ap, subst, arith, true≢false, length-append, nat_tests, length-map, map-append, take-append-drop, take_all, take_more, same_from_push, map_push, append-nil, nil_from_length, drop_all, drop_more, map_more, drop-append-le, drop-set-lt, length-set, length-replicate, get_or-set_same, get_or-set_other, get_or-replicate, get_or_from_slice_get, get_or_default, slice_get-get_or, item-cite, item-recall, Name, Stmt, Database, stmt_at, expr_of, name_at, decode, Item, Cite, Recall, Results, State, start, Cites, of_hypothesis, of_assertion, premises, Expr, Runs, with_result, Adds, Marks, Recalls, CachesLast, AreBelow, AllBelow, named, AreNamed, RunsItemByNumber, without_cached, HasCited, IsCached, AreCached, AreNamedAndCached, RunsItemWithTable, HasLegalProperties, item_of, IsRight, weight_limit, decode-injective, below-group, LabelEntry, Nothing, IsEntry, AreEntries, get-front}
 use Rattle.verify.proofs.Named.{goes-recall, goes-mark, named-result, result-named, all-drop, all-set, all-snoc, all-none, all-at, get-drop}
 use Rattle.verify.proofs.Decide.{cites_same, refuted_at_end, refuted_at_step, accepts_right}
 use Rattle.verify.proofs.Complete.{runs_append}
@@ -163,18 +163,6 @@ module _ (S : Database) (names : List Name) (at : ℕ) where
             sym (ap (without_cached (length table)) kept ∙ results-same new.stack new.stack (drop (length table) (slice_set new.saved k e)) (drop (length table) new.saved) new.weight new.weight refl (drop-set-lt (length table) new.saved k e within) refl) in
             (subst (RunsItemByNumber true S at names (item_of labels number) (without_cached (length table) old)) same on.0, λ t. kept-known (on.1 refl))
 
-    -- ---- the citation of a label before those of the table
-
-    module _ (labels : List Name) (number k : ℕ) (front : List LabelEntry) (d : LabelEntry) (by_number : number ≡ suc k) (are : AreEntries S at labels (front ++ table)) (within : k < length front) where
-      pub viewed_entries-on : (ok : Bool) → HasCited S at names (get_or front k d) old new ok → RunsItemWithTable ok S at names table (item_of labels number) old new
-      viewed_entries-on ok cited =
-          let all = length-append front table in
-          let entry = subst (IsEntry S at (get_or labels k [])) (get-front front table k d within) (entry_at S at labels (front ++ table) k d are (omega arith)) in
-          let goes = cited.0 (get_or labels k []) entry in (
-            cite-number S names at legal (without_cached (length table) old) (without_cached (length table) new) ok labels number k by_number (let c = are.count in omega arith) (cite-behind (length table) ok (get_or labels k []) old new goes),
-            λ t. known-if (λ b. RunsItemByNumber b S at names (Cite (get_or labels k [])) old new) (λ g. record { are_named = g.1; cached = subst (AreCached S at names table) (sym (cited.1 t)) known.cached }) ok goes t,
-          )
-
     -- ---- the recall of a saved result
 
     recall-known : (k : ℕ) → Recalls true old new (suc k) → AreNamedAndCached S at names table new
@@ -268,30 +256,3 @@ module _ (S : Database) (names : List Name) (at : ℕ) where
 
 pub start-behind : (n : ℕ) (st : Results ℕ) → st ≡ (let r : Results ℕ = record { stack = []; saved = replicate n []; weight = 0 } in r) → without_cached n st ≡ (let r : Results ℕ = record { stack = []; saved = []; weight = 0 } in r)
 start-behind n st is = ap (without_cached n) is ∙ results-same [] [] (drop n (replicate n [])) [] 0 0 refl (drop_all n (replicate n []) (omega (arith, length-replicate n (let r : List ℕ = [] in r)))) refl
-
--- ---- the labels after the first ones
-
-pub rest-entries : (S : Database) (at : ℕ) (labels : List Name) (front table : List LabelEntry) (n : ℕ) → n ≡ length front → AreEntries S at labels (front ++ table) → AreEntries S at (drop n labels) table
-rest-entries S at labels front table n is are =
-    let count = are.count in let all = length-append front table in let left = length-drop n labels in
-    record {
-      count = omega arith;
-      each = λ k less.
-          let entry = are.each (n + k) (omega arith) in
-          let same : get_or (front ++ table) (n + k) Nothing ≡ get_or table k Nothing = get_or-append_right front table n (n + k) Nothing (sym is) (omega arith) ∙ ap (λ i. get_or table i Nothing) (omega arith) in
-          subst (λ l. IsEntry S at l (get_or table k Nothing)) (sym (get_or-drop n labels k [])) (subst (IsEntry S at (get_or labels (n + k) [])) same entry);
-    }
-
-pub item-rest : (labels : List Name) (n number : ℕ) → n < number → n ≤ length labels → item_of labels number ≡ item_of (drop n labels) (number - n)
-item-rest labels n number above within = by (nat_lt (number - 1) (length labels)) refl
-  where
-    by : (b : Bool) → nat_lt (number - 1) (length labels) ≡ b → item_of labels number ≡ item_of (drop n labels) (number - n)
-    by true e =
-        let less : number - 1 < length labels = grind (arith, nat_tests) in
-        let left = length-drop n labels in
-        let here = get_or-drop n labels (number - 1 - n) [] ∙ ap (λ i. get_or labels i []) (omega arith) in
-        item-cite labels number (number - 1) (omega arith) less ∙ (ap Cite (sym here) ∙ sym (item-cite (drop n labels) (number - n) (number - 1 - n) (omega arith) (omega arith)))
-    by false e =
-        let over : length labels ≤ number - 1 = grind (arith, nat_tests) in
-        let left = length-drop n labels in
-        item-recall labels number (number - 1) (omega arith) over ∙ (ap Recall (omega arith) ∙ sym (item-recall (drop n labels) (number - n) (number - 1 - n) (omega arith) (omega arith)))

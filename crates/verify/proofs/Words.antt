@@ -1,31 +1,22 @@
 -- Re-exports of the definitions and lemmas with which this crate is proved.
 pub use Prim.Native.String.{String}
-pub use Rattle.entries.proofs.SpanLemmas.{cut-more, cut-push, extends-refl, range-behind, spans-push}
-pub use Rattle.entries.specs.Hypotheses.{decoded_hypothesis}
-pub use Rattle.entries.specs.Stored.Spans.{AreSpansIn, cut}
-pub use Rattle.entries.specs.SymbolPlaces.{ArePlacesOf, SymbolGroups}
 pub use Rattle.entries.specs.declared.assertion_view.AssertionView.{AssertionView}
 pub use Rattle.entries.specs.declared.assertion_view.Hypothesis.TheVariants.{Essential, Float}
 pub use Rattle.entries.specs.declared.assertion_view.Hypothesis.{Hypothesis}
-pub use Rattle.entries.specs.declared.buffer_part.BufferPart.{BufferPart}
 pub use Rattle.frame.proofs.ActiveDisjointLemmas.{below-at}
 pub use Rattle.frame.proofs.AssertionLemmas.{hypothesis-kinds}
 pub use Rattle.frame.proofs.FoundByNumber.{decode-injective, name_at-injective, some-same}
-pub use Rattle.frame.proofs.GroupsLemmas.{groups-pairs}
 pub use Rattle.frame.proofs.LegalLabels.{legal-labels}
 pub use Rattle.frame.proofs.PlacedHypotheses.{AreHyps, IsHyp, hyps}
 pub use Rattle.frame.proofs.PositionLemmas.{get-front, get-last}
 pub use Rattle.frame.proofs.SymbolNumberLemmas.{below-append, below-more, below-push, below-take}
-pub use Rattle.frame.specs.AssertionView.{AreCitingLists, AreNumberedHypotheses, IsCitingView, IsStatementOf, IsNumberedHypothesis, IsTypecode, IsViewOf, has_both, typecode_of}
+pub use Rattle.frame.specs.AssertionView.{AreNumberedHypotheses, IsStatementOf, IsNumberedHypothesis, IsTypecode, IsViewOf, typecode_of}
 pub use Rattle.frame.specs.AtPosition.{HasLegalProperties, ArePositions, HasLabelsOnce, IsPosition, HasSingleResults}
 pub use Rattle.frame.specs.Below.{AllBelow, AreBelow}
 pub use Rattle.frame.specs.WellTyped.{HasFloat, IsWellTyped, BeginsWithNoVariable}
 pub use Rattle.frame.specs.Citations.{Carries, IsHypothesis, IsInstance, AreImagesOfVariables, expr_at, is_hypothesis_kind, option_expr, premises}
 pub use Rattle.frame.specs.Disjoint.{are_disjoint, are_groups_disjoint, is_group_disjoint}
-pub use Rattle.frame.specs.ExprPlaces.{AreExprPlaces}
-pub use Rattle.frame.specs.FrameOf.{HasAssertion, hypotheses, is_hypothesis, is_mandatory_pair, mandatory_groups, together}
-pub use Rattle.frame.specs.PairFacts.{AreFacts}
-pub use Rattle.frame.specs.Parts.{Numbered}
+pub use Rattle.frame.specs.FrameOf.{HasAssertion, hypotheses, is_hypothesis, mandatory_groups}
 pub use Rattle.frame.specs.Substitution.{CodeImages, Images, apply as applied, code_apply, code_image, image, images_of_names}
 pub use Rattle.mm_lex.specs.Alphabet.{Name, has_name, name_eq}
 pub use Rattle.mm_read.specs.Statements.{Database, Expr}
@@ -48,10 +39,10 @@ pub use Rattle.scope.specs.Active.{active_from, bare, bares, before, expr_of, is
 pub use Rattle.std.proofs.Common.{Bool, IfOk, IsTrue, List, Ok, Result, Some, [], add-zero, add_assoc, ap, append-nil, append_assoc, arith, drop, false, get_or, inl, inr, length, length-append, length-drop, map, not, refl, slice_get, subst, sym, take, true, true≢false, zero-add, ℕ, ◌++◌, ◌+◌, ◌-◌, ◌<◌, ◌↔◌, ◌∙◌, ◌∷◌, ◌≡◌, ◌≤◌}
 pub use Rattle.std.proofs.Math.Bool.{or-false}
 pub use Rattle.std.proofs.lemmas.Bool.Decides.{nat_tests}
-pub use Rattle.std.proofs.lemmas.Bool.{and_from, and_parts, cases_Bool, eqb-true, false_from_ne_true, leb-true, lt-ltb, ltb-true, not-false, not-true, or_cases, or_left, or_right}
-pub use Rattle.std.proofs.lemmas.List.Folds.{list_all-append, list_all-map, list_all_more, list_any-append, list_any_at}
+pub use Rattle.std.proofs.lemmas.Bool.{and_from, leb-true, lt-ltb, ltb-true, not-false, not-true, or_left, or_right}
+pub use Rattle.std.proofs.lemmas.List.Folds.{list_any-append}
 pub use Rattle.std.proofs.lemmas.List.Sorted.{searched}
-pub use Rattle.std.proofs.lemmas.List.{drop-append-le, drop-drop, drop-map, drop-set-lt, drop-take, drop_all, drop_at, drop_more, ext_get_or, get_or-append_right, get_or-drop, get_or-map, get_or-replicate, get_or-set_other, get_or-set_same, get_or_default, length-map, length-replicate, length-set, length-take-le, length_push, map-append, map-set, map_more, map_push, nil_from_length, same_from_push, take-append-drop, take-map, take_all, take_at, take_more, take_rest}
+pub use Rattle.std.proofs.lemmas.List.{drop-append-le, drop-drop, drop-map, drop-set-lt, drop-take, drop_all, drop_at, drop_more, ext_get_or, get_or-replicate, get_or-set_other, get_or-set_same, get_or_default, length-map, length-replicate, length-set, length-take-le, length_push, map-append, map-set, map_more, map_push, nil_from_length, same_from_push, take-append-drop, take-map, take_all, take_at, take_more, take_rest}
 pub use Rattle.std.proofs.lemmas.Option.{get_or_from_slice_get, same_Some, slice_get-get_or, slice_get-map, slice_get_within}
 pub use Rattle.std.proofs.lemmas.Result.{IfOk-at_ok, IfOk-weaker}
 pub use Rattle.std.proofs.lemmas.Slice.Eq.{bytes_eq-Decides}
@@ -60,36 +51,33 @@ pub use Rattle.std.specs.List.Sorted.{IsNonDecreasing}
 pub use Rattle.std.specs.List.{list_all, list_any}
 pub use Rattle.std.specs.Map.{lookup}
 pub use Rattle.std.specs.Ordering.{nat_cmp, ord_max}
-pub use Rattle.std.specs.Prelude.{Err, IfSome, MatchOption, MatchResult, None, Option, Vec, bytes_eq, codes, cond, filter, is_none, is_some, max, min, nat_eq, nat_le, nat_lt, option_map, replicate, slice_index_or, slice_range, slice_set, suc, unwrap_or, zero, ◌&&◌, ◌==◌, ◌^◌, ◌||◌, ◌⊎◌}
+pub use Rattle.std.specs.Prelude.{Err, MatchResult, None, Option, Vec, bytes_eq, codes, cond, filter, is_none, is_some, max, min, nat_eq, nat_le, nat_lt, option_map, replicate, slice_index_or, slice_set, suc, unwrap_or, zero, ◌&&◌, ◌==◌, ◌||◌, ◌⊎◌}
 pub use Rattle.std.specs.declared.alloc.AllocError.{AllocError}
 pub use Rattle.std.specs.declared.alloc.Global.{Global}
-pub use Rattle.subst.proofs.DisjointLemmas.{disjoint_condition_law}
 pub use Rattle.subst.proofs.GroupLemmas.{below-drop, below-group}
-pub use Rattle.subst.proofs.ImageRangesLemmas.{image-more, image-none, image-some, inside-more, inside-none, inside-set}
+pub use Rattle.subst.proofs.ImageRangesLemmas.{image-none, image-some, inside-more, inside-none}
 pub use Rattle.subst.proofs.SubstitutionLemmas.{image-decode, image-named, image-unnamed, substitution_over_names}
 pub use Rattle.subst.proofs.SymbolRangeLemmas.{length-seen, map-seen-more, seen-get, seen-last, within-at, within-drop, within-get, within-snoc, within-take, within-weaken}
 pub use Rattle.subst.specs.Images.{AreOver}
 pub use Rattle.subst.specs.Stored.Written.{Appends}
 pub use Rattle.subst.specs.SymbolRanges.{AreInside, AreWithin, images_at, symbols_in}
-pub use Rattle.subst.specs.RemainingSymbols.{has_nonempty_image}
 pub use Rattle.subst.specs.declared.symbol_range.SymbolRange.{SymbolRange}
 pub use Rattle.verify.specs.Concludes.{ConcludeAll, Concludes}
 pub use Rattle.verify.specs.Derivations.{Derivation, Derivations, apply, depth, depth_in, derivation_of, derivation_step, from_list, hyp, more, node_count, nodes_in, none}
 pub use Rattle.verify.specs.Extents.{extent_of}
-pub use Rattle.verify.specs.HypothesisResults.{AreDifferent, AreFloats, AreLeadingFloats, AreRead, ArePresent, HypothesesMatch, HypothesisMatches, IsPresent, IsTyped, Reads}
+pub use Rattle.verify.specs.HypothesisResults.{AreDifferent, AreRead, ArePresent, HasSeenEssentials, HasSeenEssentialsBefore, HypothesesMatch, HypothesisMatches, IsPresent, IsTyped, Reads}
 pub use Rattle.verify.specs.Growth.{Builds, Grew, Grows, GrowsBy, IsSavedTree, Trees, a_hypothesis, an_assertion, trees, with_tree}
-pub use Rattle.verify.specs.CitationCache.{IsCacheFor, AreKeptLists, AreListsOf, AreMadeOf, HasListsAt, IsCitingViewOf, CheckerCache, CitationLists, AreSameCondition, are_covered, is_paired}
-pub use Rattle.verify.specs.LabelTable.{AreEntries, IsEntry, is_hypothesis_among, viewed_entries}
+pub use Rattle.verify.specs.LabelTable.{AreEntries, IsEntry, is_hypothesis_among}
 pub use Rattle.verify.specs.Laws.{RunsSpell, SpelledOnce, SpellingsRun}
 pub use Rattle.verify.specs.Machine.{Cites, IsSaved, Results, Runs, State, RunsItem, of_assertion, of_hypothesis, start, with_mark, with_result}
 pub use Rattle.verify.specs.Plan.{AreOrdered, IsAfter, IsPlan, built, built_from, derive, pick, trees_of}
 pub use Rattle.verify.specs.Proves.{Proves, label_or_empty, mandatory_labels}
 pub use Rattle.verify.specs.ReadPlaces.{BeginsWith, IsMistyped, ReadTo, ReadsAll, tail_of}
-pub use Rattle.verify.specs.ResultPlaces.{Adds, AreHeld, AreResultRanges, HeldResults, CachesLast, Marks, Recalls, UnchangedUnlessDone, below, held, results_in, top}
+pub use Rattle.verify.specs.ResultPlaces.{Adds, AreResultRanges, CachesLast, Marks, Recalls, UnchangedUnlessDone, below, results_in, top}
 pub use Rattle.verify.specs.Right.{Derives, IsProvable, IsRight, IsSmall, IsAnswerTo, weight_limit}
 pub use Rattle.verify.specs.Spells.{IsCitable, Spells, SpellsAll, cites_assertion, cites_hypothesis, marks, recalls, spells_more, spells_none}
 pub use Rattle.verify.specs.RunsItemByNumber.{AreCached, AreNamedAndCached, AreNamed, HasCited, IsCached, MayCite, RunsItemByNumber, RunsItemWithTable, without_cached, named}
-pub use Rattle.verify.specs.Stops.{IsNotOnly, StopsAt}
+pub use Rattle.verify.specs.Stops.{StopsAt}
 pub use Rattle.verify.specs.declared.answer.Answer.TheVariants.{Proved, Wrong}
 pub use Rattle.verify.specs.declared.answer.Answer.{Answer}
 pub use Rattle.verify.specs.declared.citation.ProofContext.{ProofContext}

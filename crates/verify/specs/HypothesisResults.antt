@@ -3,23 +3,21 @@
 -- variable.
 -- The code checks first symbols, reads the images from the results, and compares each `$e` under
 -- them with its result.
-use Rattle.std.specs.Prelude.{◌≡◌, ℕ, ◌<◌, ◌≤◌, Bool, true, false, List, [], ◌∷◌, length, map, drop, get_or, slice_get, Some}
-use Rattle.verify.specs.Words.{decode, Name, Stmt, Expr, Database, stmt_at, expr_of, Images, applied, CodeImages, code_image, expr_at, Hypothesis, Float, Essential, typecode_of, Numbered, images_of_names}
+use Rattle.std.specs.Prelude.{◌≡◌, ℕ, ◌<◌, Bool, true, false, IsTrue, List, [], ◌∷◌, length, map, drop, get_or, slice_get, Some}
+use Rattle.verify.specs.Words.{decode, Name, Stmt, Expr, Database, stmt_at, Images, applied, CodeImages, code_image, expr_at, Hypothesis, Float, Essential, typecode_of, Numbered, images_of_names}
 use Rattle.verify.specs.ResultPlaces.{HeldResults, top}
 
 -- the `$f` are of different variables
 pub record AreDifferent (hs : List Hypothesis) : Type 0 where
   pub each : (j k x : ℕ) → slice_get hs j ≡ Some (Float x) → slice_get hs k ≡ Some (Float x) → j ≡ k
 
--- the first n are `$f`
-abbrev pub AreFloats : List Hypothesis → ℕ → Type 0
-AreFloats hs n = (k : ℕ) → k < n → (x : ℕ) × (slice_get hs k ≡ Some (Float x))
+-- where one of the first n hypotheses is a `$e`, the flag is set
+abbrev pub HasSeenEssentialsBefore : ℕ → List Hypothesis → Bool → Type 0
+HasSeenEssentialsBefore n hs seen = (k p : ℕ) → k < n → slice_get hs k ≡ Some (Essential p) → IsTrue seen
 
--- the first n are `$f`, and the next one, if there is one, is not
-pub record AreLeadingFloats (hs : List Hypothesis) (n : ℕ) : Type 0 where
-  pub within : n ≤ length hs
-  pub floats : AreFloats hs n
-  pub last : (x : ℕ) → slice_get hs n ≡ Some (Float x) → ⊥
+-- where a hypothesis is a `$e`, the flag is set
+abbrev pub HasSeenEssentials : List Hypothesis → Bool → Type 0
+HasSeenEssentials hs seen = HasSeenEssentialsBefore (length hs) hs seen
 
 -- there is a statement at the position of a `$e`
 abbrev pub IsPresent : Database → Hypothesis → Type 0
@@ -30,11 +28,6 @@ IsPresent S (Essential p) = (s : Stmt) × (stmt_at S p ≡ Some s)
 abbrev pub ArePresent : Database → List Hypothesis → Type 0
 ArePresent S [] = Unit {0}
 ArePresent S (h ∷ hs) = IsPresent S h × ArePresent S hs
-
--- the statement is at the position, and the codes (the numbers of symbols) stand for its expression
-pub record IsExprAt (S : Database) (names : List Name) (at : ℕ) (codes : List ℕ) (s : Stmt) : Type 0 where
-  pub stands : stmt_at S at ≡ Some s
-  pub same : decode names codes ≡ expr_of s
 
 -- the result begins with this typecode
 pub record IsTyped (typecode : ℕ) (r : List ℕ) : Type 0 where
@@ -58,10 +51,6 @@ abbrev pub HypothesisMatches : Database → Images → Hypothesis → Expr → T
 HypothesisMatches S σ (Float x) r = Unit {0}
 HypothesisMatches S σ (Essential p) r = r ≡ applied σ (expr_at S p)
 
--- each result for a `$e` among the first n hypotheses is its expression with the images substituted
-abbrev pub HypothesesMatchBefore : ℕ → Database → Images → List Hypothesis → List Expr → Type 0
-HypothesesMatchBefore n S σ hs rs = (k : ℕ) (h : Hypothesis) → k < n → slice_get hs k ≡ Some h → HypothesisMatches S σ h (get_or rs k [])
-
 -- each result for a `$e` is its expression with the images substituted
 pub record HypothesesMatch (S : Database) (σ : Images) (hs : List Hypothesis) (rs : List Expr) : Type 0 where
   pub each : (k : ℕ) (h : Hypothesis) → slice_get hs k ≡ Some h → HypothesisMatches S σ h (get_or rs k [])
@@ -71,9 +60,3 @@ pub record HypothesesMatch (S : Database) (σ : Images) (hs : List Hypothesis) (
 abbrev pub LastResultsMatch : Numbered → List Hypothesis → HeldResults → Type 0
 LastResultsMatch frames hs r =
     HypothesesMatch frames.statements (images_of_names frames.names r.images) hs (map (decode frames.names) (top (length hs) r.results.stack))
-
--- each result for a `$e` among the first n hypotheses is its expression with the images
--- substituted, where the last results are those for the hypotheses
-abbrev pub LastResultsMatchBefore : ℕ → Numbered → List Hypothesis → HeldResults → Type 0
-LastResultsMatchBefore n frames hs r =
-    HypothesesMatchBefore n frames.statements (images_of_names frames.names r.images) hs (map (decode frames.names) (top (length hs) r.results.stack))

@@ -1,13 +1,11 @@
 -- The meanings of the labels of a proof.
 -- Metamath, 4.2.6: a proof cites active hypotheses and earlier assertions by their labels.
--- The code looks each label up once for a proof; many mandatory hypotheses are not looked up, but
--- found by their index.
-use Rattle.std.specs.Prelude.{◌≡◌, ◌==◌, ℕ, ◌<◌, Bool, false, List, [], length, map, get_or, Option, Some, None}
+-- The code looks each label up once for a proof; mandatory hypotheses are not looked up, but listed
+-- by their positions.
+use Rattle.std.specs.Prelude.{◌≡◌, ◌==◌, ℕ, ◌<◌, Bool, false, List, [], length, get_or}
 use Rattle.verify.specs.Words.{list_any, Name, Stmt, Database, Carries, IsHypothesis}
 use Rattle.verify.specs.declared.label_table.LabelEntry.{LabelEntry}
 use Rattle.verify.specs.declared.label_table.LabelEntry.TheVariants.{Hypothesis, Assertion, Nothing}
-use Rattle.verify.specs.declared.label_table.Mandatory.{Mandatory}
-use Rattle.verify.specs.declared.label_table.Mandatory.TheVariants.{Few, Many}
 use Rattle.verify.specs.Spells.{IsCitable}
 
 -- the meaning of a label at `at`: an active hypothesis, an earlier assertion, or nothing that may
@@ -26,13 +24,3 @@ pub record AreEntries (S : Database) (at : ℕ) (labels : List Name) (table : Li
 abbrev pub is_hypothesis_among : List ℕ → LabelEntry → Bool
 is_hypothesis_among positions (Hypothesis i) = list_any (λ p. p == i) positions
 is_hypothesis_among positions other = false
-
--- the mandatory hypotheses by position
-abbrev pub positions_in : Mandatory → List ℕ
-positions_in (Few positions) = positions.now
-positions_in (Many view) = view.now
-
--- the meanings of the labels that are found by their index
-abbrev pub viewed_entries : Option (List ℕ) → List LabelEntry
-viewed_entries None = []
-viewed_entries (Some positions) = map Hypothesis positions

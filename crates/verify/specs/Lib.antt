@@ -6,9 +6,7 @@ pub mod Right
 pub mod Machine
 pub mod ResultPlaces
 pub mod HypothesisResults
-pub mod LongHypotheses
 pub mod ReadPlaces
-pub mod CitationCache
 pub mod RunsItemByNumber
 pub mod Stops
 pub mod LabelTable

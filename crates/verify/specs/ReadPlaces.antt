@@ -2,7 +2,7 @@
 -- Metamath, 4.2.6: the symbols after the first one of the result for a `$f` are the image of its
 -- variable.
 -- The code sets one image after another; these are the images set so far.
-use Rattle.std.specs.Prelude.{◌≡◌, ℕ, ◌+◌, ◌<◌, nat_eq, Bool, true, false, List, get_or, slice_get, Option, Some, None, MatchOption}
+use Rattle.std.specs.Prelude.{◌≡◌, ℕ, ◌+◌, ◌<◌, nat_eq, Bool, true, false, List, get_or, slice_get, Some, None}
 use Rattle.verify.specs.Words.{lookup, SymbolRange, Hypothesis, Float}
 
 -- the range without its first symbol
@@ -24,12 +24,6 @@ pub record ReadTo (n : ℕ) (symbols typecodes : List ℕ) (hs : List Hypothesis
 abbrev pub IsMistyped : List ℕ → List ℕ → List Hypothesis → List SymbolRange → Type 0
 IsMistyped symbols typecodes hs places =
     (k : ℕ) × (x : ℕ) × (p : SymbolRange) × (slice_get hs k ≡ Some (Float x)) × (slice_get places k ≡ Some p) × (BeginsWith symbols (get_or typecodes k 0) p → ⊥)
-
--- the images of the first n `$f`, which precede all other hypotheses, were set, or a result does
--- not begin with its typecode
-abbrev pub ReadsLeading : List ℕ → List ℕ → List Hypothesis → List SymbolRange → List (ℕ × SymbolRange) → Option ℕ → Type 0
-ReadsLeading symbols typecodes hs places images leading =
-    MatchOption leading (IsMistyped symbols typecodes hs places) (λ n. ReadTo n symbols typecodes hs places images)
 
 -- all images were set, or a result does not begin with its typecode
 abbrev pub ReadsAll : Bool → ℕ → List ℕ → List ℕ → List Hypothesis → List SymbolRange → List (ℕ × SymbolRange) → Type 0

@@ -2,23 +2,22 @@
 -- Metamath, 4.2.6: the stack of a proof.
 -- The code keeps the range of each result; here the results are lists of symbols.
 use Rattle.std.specs.Prelude.{◌≡◌, ℕ, ◌+◌, ◌-◌, ◌<◌, ◌≤◌, Bool, true, false, List, [], ◌∷◌, ◌++◌, length, map, drop, take, slice_set, get_or, suc, Option, Some, None}
-use Rattle.verify.specs.Words.{CodeImages, SymbolRange, symbols_in, images_at, AreWithin, AreInside, Numbered}
+use Rattle.verify.specs.Words.{CodeImages, SymbolRange, symbols_in, images_at, AreWithin, AreInside}
 use Rattle.verify.specs.Machine.{Results, with_result, with_mark, IsSaved}
 use Rattle.verify.specs.Right.{weight_limit}
 
--- results and images, and the statements and names that they are about
+-- results and images
 pub record HeldResults : Type 0 where
   pub results : Results ℕ
   pub images : CodeImages
-  pub about : Numbered
 
 -- the results in these ranges
 abbrev pub results_in : List ℕ → List SymbolRange → List SymbolRange → ℕ → Results ℕ
 results_in symbols stack saved weight = record { stack = map (symbols_in symbols) stack; saved = map (symbols_in symbols) saved; weight = weight }
 
--- the results and images in these ranges, and what they are about
-abbrev pub held : List ℕ → List (ℕ × SymbolRange) → List SymbolRange → List SymbolRange → ℕ → Numbered → HeldResults
-held symbols images stack saved weight about = record { results = results_in symbols stack saved weight; images = images_at symbols images; about = about }
+-- the results and images in these ranges
+abbrev pub held : List ℕ → List (ℕ × SymbolRange) → List SymbolRange → List SymbolRange → ℕ → HeldResults
+held symbols images stack saved weight = record { results = results_in symbols stack saved weight; images = images_at symbols images }
 
 -- all ranges are in the buffer, which has no more symbols than the weight, and the weight is within
 -- the limit
@@ -28,12 +27,6 @@ pub record AreResultRanges (symbols : List ℕ) (images : List (ℕ × SymbolRan
   pub saved_within : AreWithin (length symbols) saved
   pub few : length symbols ≤ weight
   pub light : weight ≤ weight_limit
-
--- besides, the buffer begins with `over`, the symbols that it had when `DisjointCache` last
--- recorded facts
-pub record AreHeld (over symbols : List ℕ) (images : List (ℕ × SymbolRange)) (stack saved : List SymbolRange) (weight : ℕ) : Type 0 where
-  pub kept : AreResultRanges symbols images stack saved weight
-  pub recorded : (more : List ℕ) × (symbols ≡ over ++ more)
 
 -- the stack without its last r results
 abbrev pub below : {A : Type 0} → ℕ → List A → List A

@@ -1,8 +1,8 @@
 -- The effect of one item on results of numbers, stated over the names that they stand for.
 -- Metamath, 4.2.6 and appendix B; `Machine` defines the same over names.
 -- The program knows only the numbers of symbols, here called codes; each has a name.
-use Rattle.std.specs.Prelude.{◌≡◌, ℕ, ◌<◌, ◌≤◌, Bool, true, false, IsTrue, List, [], length, map, drop, get_or}
-use Rattle.verify.specs.Words.{Name, Stmt, Expr, Database, before, AllBelow, Item, Cite, decode, HasLegalProperties, HasAssertion, Numbered}
+use Rattle.std.specs.Prelude.{◌≡◌, ℕ, ◌<◌, ◌≤◌, Bool, true, false, IsTrue, List, [], length, map, drop, get_or, Some}
+use Rattle.verify.specs.Words.{Name, Stmt, Expr, Database, before, AllBelow, Item, Cite, decode, HasLegalProperties, HasAssertion, AssertionView, IsViewOf, stmt_at}
 use Rattle.verify.specs.declared.label_table.LabelEntry.{LabelEntry}
 use Rattle.verify.specs.declared.label_table.LabelEntry.TheVariants.{Nothing}
 use Rattle.verify.specs.LabelTable.{IsEntry}
@@ -69,16 +69,20 @@ RunsItemIn context table item old new ok = RunsItemWithTable ok context.frames.n
 
 -- ---- the requirements for running an item
 
--- legal statements, the pairs that are active at the statement, and results that are about these
-pub record IsReady (context : ProofContext) (about : Numbered) : Type 0 where
+-- legal statements, and the pairs that are active at the `$p`
+pub record IsReady (context : ProofContext) : Type 0 where
   pub legal : HasLegalProperties context.frames.now.statements context.frames.now.names
   pub active : context.pairs.statements ≡ before context.frames.now.statements context.at
   pub names : context.pairs.names ≡ context.frames.now.names
-  pub same : about ≡ context.pairs
 
 -- besides, an earlier assertion at a, and results whose codes have names
-pub record MayCite (context : ProofContext) (a : ℕ) (about : Numbered) (st : Results ℕ) : Type 0 where
-  pub ready : IsReady context about
+pub record MayCite (context : ProofContext) (a : ℕ) (st : Results ℕ) : Type 0 where
+  pub ready : IsReady context
   pub named : AreNamed context.frames.now.names st
   pub assertion : (s : Stmt) × HasAssertion context.frames.now.statements a s
   pub earlier : a < context.at
+
+-- these are the parts of the assertion at a, if a statement is there
+abbrev pub IsCitedView : ProofContext → ℕ → AssertionView → Type 0
+IsCitedView context a c =
+    (s : Stmt) → stmt_at context.frames.now.statements a ≡ Some s → IsViewOf context.frames.now.statements context.frames.now.names a s c

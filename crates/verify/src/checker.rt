@@ -1,36 +1,29 @@
 //! The check of a whole proof.
 
-ghost use Rattle.std.specs.Prelude.{◌≡◌, ◌++◌, false, [], List, IfOk, IsTrue, option_map};
-ghost use Rattle.frame.specs.FrameOf.{hypotheses};
+ghost use Rattle.std.specs.Prelude.{◌≡◌, false, List, IfOk};
 ghost use Rattle.mm_lex.specs.Alphabet.{Name};
 ghost use Rattle.mm_read.specs.declared.stmt.Stmt.{Stmt as Statement};
 ghost use Rattle.proof_code.specs.ItemNumbers.{items_of};
 ghost use Rattle.proof_code.specs.Writes.{is_compressed};
-ghost use Rattle.scope.specs.Active.{before};
-ghost use Rattle.verify.specs.CitationCache.{IsCacheFor};
-ghost use Rattle.verify.specs.LabelTable.{AreEntries, viewed_entries};
+ghost use Rattle.verify.specs.LabelTable.{AreEntries};
 ghost use Rattle.verify.specs.Proves.{Proves};
 ghost use Rattle.verify.specs.Right.{IsProvable, IsRight, IsAnswerTo};
 
 use crate::answer::Answer;
 use crate::citation::{Buffers, ProofContext};
-use crate::citation_cache::CitationCache;
 use crate::failure::run_items;
-use crate::label_table::{LabelEntry, Mandatory, add_listed, fill_mandatory, fill_table};
+use crate::label_table::{LabelEntry, add_listed, fill_mandatory, fill_table};
 use crate::results::Results;
-use frame::{FrameBuffers, Frames, MandatoryView};
+use frame::{FrameBuffers, Frames};
 use mm_lex::Words;
 use proof_code::{CodeFault, Items, Reader, is_compressed, normal};
 use std::alloc::{AllocError, Global};
-use std::marker::Model;
-use subst::RemainingSymbols;
 
 /// `Checker::shrink` keeps the memory that proofs up to this size need (`Checker::largest` defines
 /// the size): 1 MB for this many symbols.
 const KEPT_SIZE: usize = 262_144;
 
-/// A verifier that reuses its buffers from proof to proof. Contracts see the lists that it keeps,
-/// by which assertions are cited, and the pairs of variables that it found to be disjoint or not.
+/// A verifier that reuses its buffers from proof to proof. It knows nothing of earlier proofs.
 #[derive(Drop)]
 pub struct Checker {
     /// Where its buffers are allocated.
@@ -45,24 +38,13 @@ pub struct Checker {
     table: Vec<LabelEntry>,
     /// A buffer for the positions of the mandatory hypotheses of the theorem.
     mandatory: Vec<u32>,
-    /// The buffers of the run over the items of a proof, and the lists and facts that are kept.
+    /// The buffers of the run over the items of a proof.
     buffers: Buffers,
-}
-
-impl Model for Checker {
-    ghost use Rattle.verify.specs.CitationCache.{CheckerCache};
-
-    ghost Value = { CheckerCache };
-
-    ghost view = { λ a. a.buffers.kept };
 }
 
 impl Checker {
     /// Returns a verifier with empty buffers. Does not allocate.
-    pub fn new(alloc: Global) -> Checker
-        ensures lists { result.lists ≡ [] }
-        ensures facts { result.facts ≡ [] }
-    {
+    pub fn new(alloc: Global) -> Checker {
         Checker {
             alloc,
             largest: 0,
@@ -71,35 +53,9 @@ impl Checker {
             mandatory: Vec::new(alloc),
             buffers: Buffers {
                 frame_buffers: FrameBuffers::new(alloc),
-                kept: CitationCache::new(alloc),
-                remaining: RemainingSymbols::new(alloc),
                 results: Results::new(alloc),
             },
         }
-    }
-
-    /// Removes the kept lists and the facts on pairs of variables, which are right only for the
-    /// frames of earlier proofs. After this call proofs under any frames may be checked.
-    ///
-    /// Does not allocate. Cost: the lists and facts.
-    pub fn clear_cache(&mut self)
-        ensures lists { self.new.lists ≡ [] }
-        ensures facts { self.new.facts ≡ [] }
-    {
-        self.buffers.kept.clear();
-    }
-
-    /// Repeats some of the long searches for pairs of disjoint variables that were made since the
-    /// last such call. The frames keep the answers, so that later searches for these pairs, by any
-    /// checker, are short.
-    ///
-    /// Cost: that of the searches, of which there are at most 128.
-    pub fn repeat_searches(&mut self, frames: &mut Frames)
-        ensures checker { self.new ≡ self.old }
-        ensures frames { frames.new ≡ frames.old }
-    {
-        self.buffers.kept.repeat_searches(frames);
-        self.buffers.results.repeat_searches(frames);
     }
 
     /// Limits the buffer of results to `symbols` symbols; at first the limit is `SYMBOLS_LIMIT`.
@@ -109,8 +65,8 @@ impl Checker {
     }
 
     /// Frees the buffers for tokens, labels and results if a proof was large since they were last
-    /// freed. Keeps those of ordinary proofs, the kept lists and facts, and the tables of images
-    /// and variables, which are indexed by symbol and would have to be made again.
+    /// freed. Keeps those of ordinary proofs, and the tables of images and variables, which are
+    /// indexed by symbol and would have to be made again.
     ///
     /// Does not allocate. Cost: a constant.
     pub fn shrink(&mut self) {
@@ -125,9 +81,7 @@ impl Checker {
     }
 
     /// Records the weight of the last proof, and the size of the next one.
-    fn record_size(&mut self, next: usize)
-        ensures { self.new ≡ self.old }
-    {
+    fn record_size(&mut self, next: usize) {
         let weight = self.buffers.results.weight();
         self.largest = self.largest.max(weight).max(next);
     }
@@ -138,27 +92,26 @@ impl Checker {
     /// `set_symbol_limit`.
     /// Cost: each label is looked up once; a recall and a mark are one step; a citation costs the
     /// lengths of its result and of the results that it compares with a `$e`, and that of the
-    /// disjoint variable condition; if the assertion has long lists (`CitationCache`) that are not
-    /// kept yet, also that of `Frames::fill_for_citing`. Source: Metamath, 4.2.6 and appendix B.
+    /// disjoint variable condition; if the parts of the assertion are not stored whole, also that
+    /// of `Frames::fill_buffers`. Source: Metamath, 4.2.6 and appendix B.
     pub fn check(&mut self, frames: &Frames, at: usize, items: &Items) -> Result<Answer, AllocError>
         requires provable { (s : Statement) × IsProvable frames.now.statements at s }
-        requires kept { IsCacheFor frames.now.statements frames.now.names self.old }
-        ensures kept { IsCacheFor frames.now.statements frames.now.names self.new }
         ensures answer { IfOk result (λ answer. IsAnswerTo answer (IsRight frames.now.statements at items.now)) }
     {
         let parts = items.parts();
         self.record_size(parts.numbers.len());
         fill_table(frames, at, parts.labels, &mut self.table)?;
-        check_by_table(frames, at, &self.table, parts.numbers, &mut self.buffers)
+        check_numbers(frames, at, &self.table, parts.numbers, &mut self.buffers)
     }
 
     /// Returns whether the tokens write a right proof of the `$p` at that position.
     ///
     /// Errors: an allocation fails, or the results would exceed the limit set by
     /// `set_symbol_limit`.
-    /// Cost: that of reading the tokens and checking their items; in a compressed proof a mandatory
-    /// hypothesis is known by its position, so its label is neither copied nor looked up. Source:
-    /// Metamath, 4.2.6 and appendix B.
+    /// Cost: that of reading the tokens and checking their items; for a compressed proof, also the
+    /// number of mandatory hypotheses, times a logarithm: a mandatory hypothesis is known by its
+    /// position, so its label is neither copied nor looked up. Source: Metamath, 4.2.6 and appendix
+    /// B.
     pub fn prove(
         &mut self,
         frames: &Frames,
@@ -166,33 +119,22 @@ impl Checker {
         tokens: &Words,
     ) -> Result<Answer, AllocError>
         requires provable { (s : Statement) × IsProvable frames.now.statements at s }
-        requires kept { IsCacheFor frames.now.statements frames.now.names self.old }
-        ensures kept { IsCacheFor frames.now.statements frames.now.names self.new }
         ensures answer { IfOk result (λ answer. IsAnswerTo answer (Proves frames.now.statements at tokens.now)) }
     {
         self.record_size(tokens.as_text().len());
         if !is_compressed(tokens) {
             return self.prove_normal(frames, at, tokens);
         }
-        if let Some(view) = frames.mandatory_view(at)? {
-            return self.prove_by_view(frames, at, tokens, &view);
-        }
         fill_mandatory(frames, at, &mut self.mandatory, &mut self.table)?;
         let count = self.mandatory.as_slice().len();
         let Some(heading) = self.reader.read(tokens, count)? else {
             return Ok(Answer::Wrong);
         };
-        if !add_listed(
-            frames,
-            at,
-            Mandatory::Few(&self.mandatory),
-            heading,
-            &mut self.table,
-        )? {
+        if !add_listed(frames, at, &self.mandatory, heading, &mut self.table)? {
             return Ok(Answer::Wrong);
         }
         let numbers = self.reader.numbers();
-        check_by_table(frames, at, &self.table, numbers, &mut self.buffers)
+        check_numbers(frames, at, &self.table, numbers, &mut self.buffers)
     }
 
     /// Returns whether the tokens write a right proof, in normal form, of the `$p` at that
@@ -208,8 +150,6 @@ impl Checker {
     ) -> Result<Answer, AllocError>
         requires provable { (s : Statement) × IsProvable frames.now.statements at s }
         requires normal { is_compressed tokens.now ≡ false }
-        requires kept { IsCacheFor frames.now.statements frames.now.names self.old }
-        ensures kept { IsCacheFor frames.now.statements frames.now.names self.new }
         ensures answer { IfOk result (λ answer. IsAnswerTo answer (Proves frames.now.statements at tokens.now)) }
     {
         match normal(self.alloc, tokens) {
@@ -217,47 +157,6 @@ impl Checker {
             Err(CodeFault::Memory) => Err(AllocError),
             Err(_) => Ok(Answer::Wrong),
         }
-    }
-
-    /// Returns whether the tokens write a right proof, in compressed form, of the `$p` at that
-    /// position. The `$p` has many mandatory hypotheses, which are read through a view.
-    ///
-    /// Errors: an allocation fails, or the results would exceed the limit set by
-    /// `set_symbol_limit`.
-    #[cold]
-    #[inline(never)]
-    fn prove_by_view(
-        &mut self,
-        frames: &Frames,
-        at: usize,
-        tokens: &Words,
-        view: &MandatoryView<'_>,
-    ) -> Result<Answer, AllocError>
-        requires provable { (s : Statement) × IsProvable frames.now.statements at s }
-        requires compressed { IsTrue (is_compressed tokens.now) }
-        requires view { (s : Statement) → IsProvable frames.now.statements at s → view.now ≡ hypotheses (before frames.now.statements at) s }
-        requires kept { IsCacheFor frames.now.statements frames.now.names self.old }
-        ensures kept { IsCacheFor frames.now.statements frames.now.names self.new }
-        ensures answer { IfOk result (λ answer. IsAnswerTo answer (Proves frames.now.statements at tokens.now)) }
-    {
-        let Some(heading) = self.reader.read(tokens, view.len())? else {
-            return Ok(Answer::Wrong);
-        };
-        // This call is here for its contract, which says that the statements are legal.
-        let _pairs = frames.active_pairs(at);
-        self.table.clear();
-        if !add_listed(frames, at, Mandatory::Many(view), heading, &mut self.table)? {
-            return Ok(Answer::Wrong);
-        }
-        let numbers = self.reader.numbers();
-        check_numbers(
-            frames,
-            at,
-            Some(view),
-            &self.table,
-            numbers,
-            &mut self.buffers,
-        )
     }
 }
 
@@ -277,7 +176,7 @@ pub fn check(alloc: Global, frames: &Frames, at: usize, items: &Items) -> Result
 ///
 /// Errors: an allocation fails.
 #[inline(never)]
-fn check_by_table(
+fn check_numbers(
     frames: &Frames,
     at: usize,
     table: &[LabelEntry],
@@ -286,38 +185,12 @@ fn check_by_table(
 ) -> Result<Answer, AllocError>
     requires provable { (s : Statement) × IsProvable frames.now.statements at s }
     requires entries { (labels : List Name) × AreEntries frames.now.statements at labels table.now }
-    requires kept { IsCacheFor frames.now.statements frames.now.names buffers.old.kept }
-    ensures kept { IsCacheFor frames.now.statements frames.now.names buffers.new.kept }
-    ensures answer { (labels : List Name) → AreEntries frames.now.statements at labels table.now
-        → IfOk result (λ answer. IsAnswerTo answer (IsRight frames.now.statements at (items_of labels numbers.now))) }
-{
-    check_numbers(frames, at, None, table, numbers, buffers)
-}
-
-/// Returns whether the items with these numbers are a right proof of the `$p` at that position. The
-/// table has the meanings of all labels or, if there is a view of the mandatory hypotheses, of the
-/// other labels.
-///
-/// Errors: an allocation fails.
-#[inline(always)]
-fn check_numbers(
-    frames: &Frames,
-    at: usize,
-    view: Option<&MandatoryView<'_>>,
-    table: &[LabelEntry],
-    numbers: &[u32],
-    buffers: &mut Buffers,
-) -> Result<Answer, AllocError>
-    requires provable { (s : Statement) × IsProvable frames.now.statements at s }
-    requires entries { (labels : List Name) × AreEntries frames.now.statements at labels (viewed_entries (option_map (λ v. v.now) view) ++ table.now) }
-    requires kept { IsCacheFor frames.now.statements frames.now.names buffers.old.kept }
-    ensures kept { IsCacheFor frames.now.statements frames.now.names buffers.new.kept }
-    ensures answer { (labels : List Name) → AreEntries frames.now.statements at labels (viewed_entries (option_map (λ v. v.now) view.entry) ++ table.now)
+    ensures { (labels : List Name) → AreEntries frames.now.statements at labels table.now
         → IfOk result (λ answer. IsAnswerTo answer (IsRight frames.now.statements at (items_of labels numbers.now))) }
 {
     let pairs = frames.active_pairs(at);
     let context = ProofContext { frames, at, pairs };
-    let done = run_items(&context, view, table, numbers, buffers)?;
+    let done = run_items(&context, table, numbers, buffers)?;
     if done == numbers.len() && buffers.results.is_only(frames.expr(at)) {
         Ok(Answer::Proved)
     } else {

@@ -1,23 +1,20 @@
 //! The run over the items of a proof, up to the first that cannot be done.
 
-ghost use Rattle.std.specs.Prelude.{◌≡◌, ◌++◌, List, length, IfOk, IfSome, MatchOption, option_map};
+ghost use Rattle.std.specs.Prelude.{List, length, IfOk, IfSome, MatchOption};
 ghost use Rattle.mm_lex.specs.Alphabet.{Name};
 ghost use Rattle.mm_read.specs.declared.stmt.Stmt.{Stmt as Statement};
 ghost use Rattle.proof_code.specs.ItemNumbers.{items_of};
-ghost use Rattle.verify.specs.CitationCache.{IsCacheFor};
 ghost use Rattle.verify.specs.RunsItemByNumber.{IsReady, without_cached};
-ghost use Rattle.verify.specs.LabelTable.{AreEntries, viewed_entries};
+ghost use Rattle.verify.specs.LabelTable.{AreEntries};
 ghost use Rattle.verify.specs.Right.{IsProvable, IsRight};
 ghost use Rattle.verify.specs.Stops.{IsFirstFailure, StopsIn};
 
-use crate::citation::{Buffers, ProofContext, run_item};
-use crate::citation_cache::CitationCache;
+use crate::citation::{Buffers, ProofContext, step};
 use crate::label_table::{LabelEntry, fill_table};
 use crate::results::Results;
-use frame::{FrameBuffers, Frames, MandatoryView};
+use frame::{FrameBuffers, Frames};
 use proof_code::Items;
 use std::alloc::{AllocError, Global};
-use subst::RemainingSymbols;
 
 /// Where the run over the items of a proof fails, and the results before it.
 #[derive(Drop)]
@@ -37,29 +34,25 @@ pub enum Failure {
 }
 
 /// Runs the items with these numbers up to the first that cannot be done, and returns how many were
-/// done. The table has the meanings of all labels or, if there is a view of the mandatory
-/// hypotheses, of the other labels.
+/// done. The table has the meaning of each label.
 ///
 /// Errors: an allocation fails, or the results would exceed the limit set by
 /// `Results::set_symbol_limit`.
 #[inline(always)]
 pub(crate) fn run_items(
     context: &ProofContext<'_>,
-    view: Option<&MandatoryView<'_>>,
     table: &[LabelEntry],
     numbers: &[u32],
     buffers: &mut Buffers,
 ) -> Result<usize, AllocError>
-    requires ready { IsReady context.now context.now.pairs }
-    requires entries { (labels : List Name) × AreEntries context.now.frames.now.statements context.now.at labels (viewed_entries (option_map (λ v. v.now) view) ++ table.now) }
-    requires kept { IsCacheFor context.now.frames.now.statements context.now.frames.now.names buffers.old.kept }
-    ensures kept { IsCacheFor context.now.frames.now.statements context.now.frames.now.names buffers.new.kept }
-    ensures stops { (labels : List Name) → AreEntries context.now.frames.now.statements context.now.at labels (viewed_entries (option_map (λ v. v.now) view.entry) ++ table.now)
+    requires ready { IsReady context.now }
+    requires entries { (labels : List Name) × AreEntries context.now.frames.now.statements context.now.at labels table.now }
+    ensures stops { (labels : List Name) → AreEntries context.now.frames.now.statements context.now.at labels table.now
         → IfOk result (λ done. StopsIn context.now (items_of labels numbers.now) done (without_cached (length table.now) buffers.new.results.results)) }
 {
-    buffers.results.start(&context.pairs, table.len())?;
+    buffers.results.start(table.len())?;
     for (done, number) in numbers.iter().enumerate() {
-        if !run_item(context, view, table, *number, buffers)? {
+        if !step(context, table, *number, buffers)? {
             return Ok(done);
         }
     }
@@ -85,13 +78,11 @@ pub fn first_failure(
     fill_table(frames, at, parts.labels, &mut table)?;
     let mut buffers = Buffers {
         frame_buffers: FrameBuffers::new(alloc),
-        kept: CitationCache::new(alloc),
-        remaining: RemainingSymbols::new(alloc),
         results: Results::new(alloc),
     };
     let pairs = frames.active_pairs(at);
     let context = ProofContext { frames, at, pairs };
-    let done = run_items(&context, None, &table, parts.numbers, &mut buffers)?;
+    let done = run_items(&context, &table, parts.numbers, &mut buffers)?;
     let results = buffers.results;
     let is_only = results.is_only(frames.expr(at));
     if done < parts.numbers.len() {

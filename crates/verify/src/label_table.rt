@@ -8,11 +8,11 @@ ghost use Rattle.mm_read.specs.declared.stmt.Stmt.{Stmt as Statement};
 ghost use Rattle.proof_code.specs.Reading.{share_label};
 ghost use Rattle.scope.specs.Active.{before};
 ghost use Rattle.std.specs.List.Sorted.{IsNonDecreasing};
-ghost use Rattle.verify.specs.LabelTable.{AreEntries, IsEntry, is_hypothesis_among, positions_in};
+ghost use Rattle.verify.specs.LabelTable.{AreEntries, IsEntry, is_hypothesis_among};
 ghost use Rattle.verify.specs.Proves.{mandatory_labels};
 ghost use Rattle.verify.specs.Right.{IsProvable};
 
-use frame::{Frames, MandatoryView, Meaning};
+use frame::{Frames, Meaning};
 use mm_lex::Words;
 use proof_code::Heading;
 use std::alloc::AllocError;
@@ -91,30 +91,6 @@ pub fn fill_mandatory(
     Ok(())
 }
 
-/// The mandatory hypotheses of a `$p`.
-#[derive(Clone, Copy, Drop)]
-pub enum Mandatory<'a> {
-    /// A list of them, by position, in order.
-    Few(&'a [u32]),
-    /// A view of them, if they are many.
-    Many(&'a MandatoryView<'a>),
-}
-
-/// Returns whether the entry is one of the mandatory hypotheses.
-#[inline(always)]
-fn is_mandatory(entry: LabelEntry, mandatory: Mandatory<'_>) -> bool
-    requires { IsNonDecreasing (positions_in mandatory) }
-    ensures { result ≡ is_hypothesis_among (positions_in mandatory.entry) entry }
-{
-    match mandatory {
-        Mandatory::Few(positions) => is_among(entry, positions),
-        Mandatory::Many(view) => match entry {
-            LabelEntry::Hypothesis(position) => view.has(position),
-            _ => false,
-        },
-    }
-}
-
 /// Returns whether the entry is one of these hypotheses.
 #[inline(always)]
 fn is_among(entry: LabelEntry, hypotheses: &[u32]) -> bool
@@ -138,11 +114,11 @@ fn is_among(entry: LabelEntry, hypotheses: &[u32]) -> bool
 pub fn add_listed(
     frames: &Frames,
     at: usize,
-    mandatory: Mandatory<'_>,
+    mandatory: &[u32],
     heading: Heading<'_>,
     table: &mut Vec<LabelEntry>,
 ) -> Result<bool, AllocError>
-    requires mandatory { (s : Statement) → IsProvable frames.now.statements at s → positions_in mandatory ≡ hypotheses (before frames.now.statements at) s }
+    requires mandatory { (s : Statement) → IsProvable frames.now.statements at s → mandatory.now ≡ hypotheses (before frames.now.statements at) s }
     requires legal { HasLegalProperties frames.now.statements frames.now.names }
     requires provable { (s : Statement) × IsProvable frames.now.statements at s }
     requires listed { heading.count ≤ length heading.words }
@@ -157,7 +133,7 @@ pub fn add_listed(
             unreachable!();
         };
         let entry = entry_of(frames, at, frames.position(label));
-        if is_mandatory(entry, mandatory) {
+        if is_among(entry, mandatory) {
             return Ok(false);
         }
         table.push(entry)?;

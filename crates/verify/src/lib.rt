@@ -7,24 +7,24 @@
 //! so for the items themselves; `first_failure` returns where their run fails.
 //!
 //! Reading order: `answer`, `tree`; `results` (as ranges of one buffer), `label_table`,
-//! `pair_places`, `citation_cache`, `citation` (one item), `failure` (all items), `checker` (a
-//! whole proof); `plan` (the derivation); `laws`.
+//! `cited`, `citation` (one item), `failure` (all items), `checker` (a whole proof); `plan`
+//! (the derivation); `laws`.
 #![tactic(auto)]
 
 mod answer;
 mod checker;
 mod citation;
-mod citation_cache;
+mod cited;
 mod failure;
 mod label_table;
 pub mod laws;
-mod pair_places;
 mod plan;
 mod results;
 mod tree;
 
 pub use answer::{Answer, TreeFault};
 pub use checker::{Checker, check};
+pub use cited::cited_view;
 pub use failure::{Failure, first_failure};
 pub use plan::{MAX_DEPTH, MAX_NODES, derivation};
 pub use results::{Results, read_off};

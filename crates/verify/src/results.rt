@@ -1,41 +1,28 @@
 //! The results of a proof so far, as ranges of one buffer.
 
-ghost use Rattle.std.specs.Prelude.{take, true, List, ℕ, ◌≡◌, suc, ◌<◌, ◌≤◌, ◌↔◌, ◌∷◌, ◌++◌, [], length, get_or, slice_get, replicate, nat_eq, ◌==◌, Some, is_some, if◌then◌else◌, IfOk, IfSome, OnOk, OnErr, IsTrue};
-ghost use Rattle.mm_read.specs.declared.stmt.Stmt.{Stmt as Statement};
-ghost use Rattle.entries.specs.PositionSets.{Ascends};
+ghost use Rattle.std.specs.Prelude.{take, List, ℕ, ◌≡◌, ◌<◌, ◌≤◌, ◌↔◌, ◌∷◌, ◌++◌, [], length, slice_get, replicate, nat_eq, ◌==◌, Some, is_some, if◌then◌else◌, IfOk, IfSome, OnOk, OnErr, IsTrue};
 ghost use Rattle.frame.specs.AtPosition.{HasLegalProperties};
-ghost use Rattle.frame.specs.Below.{AllBelow, AreBelow};
-ghost use Rattle.frame.specs.Disjoint.{are_groups_disjoint};
-ghost use Rattle.frame.specs.FrameOf.{HasAssertion};
-ghost use Rattle.frame.specs.Stored.Hypotheses.{In};
+ghost use Rattle.frame.specs.Below.{AllBelow};
 ghost use Rattle.frame.specs.Substitution.{code_apply};
-ghost use Rattle.mm_lex.specs.Alphabet.{Name};
-ghost use Rattle.mm_read.specs.Statements.{Expr};
-ghost use Rattle.mm_read.specs.declared.stmt.Stmt.TheVariants.{Ess};
 ghost use Rattle.names.specs.Codes.{AreDistinct};
 ghost use Rattle.std.specs.Map.{lookup};
 ghost use Rattle.subst.specs.Images.{AreOver, are_numbered_groups_disjoint};
-ghost use Rattle.entries.specs.declared.assertion_view.Hypothesis.TheVariants.{Float};
-ghost use Rattle.subst.specs.SymbolRanges.{AreInside, AreWithin, images_at, symbols_in};
-ghost use Rattle.verify.specs.HypothesisResults.{AreDifferent, AreLeadingFloats, ArePresent, IsExprAt, LastResultsMatch, LastResultsMatchBefore, Reads};
-ghost use Rattle.verify.specs.LongHypotheses.{AreListed, AreHypothesesOf, AreRemaining, IsListed, IsListedIfNonempty, RemainingSuffice};
-ghost use Rattle.verify.specs.Machine.{IsSaved, with_mark, with_result};
-ghost use Rattle.verify.specs.ReadPlaces.{BeginsWith, ReadsAll, ReadsLeading, tail_of};
+ghost use Rattle.subst.specs.SymbolRanges.{AreInside, AreWithin};
+ghost use Rattle.verify.specs.HypothesisResults.{AreDifferent, ArePresent, HasSeenEssentials, LastResultsMatch, Reads};
+ghost use Rattle.verify.specs.ReadPlaces.{BeginsWith, ReadsAll, tail_of};
 ghost use Rattle.verify.specs.ResultPlaces.{Adds, RecallsAt, CachesLast, Marks, UnchangedUnlessDone, below, top};
 ghost use Rattle.verify.specs.Right.{weight_limit};
 
 use entries::{Groups, Hypotheses, Hypothesis};
-use frame::{Frames, LONG_EXPRESSION, Pairs};
+use frame::{Frames, Pairs};
 use std::alloc::{AllocError, Global};
 use std::marker::Model;
 use subst::{
-    Buffer, DisjointCache, ImageRanges, RemainingSymbols, SYMBOLS_LIMIT, SymbolRange,
-    is_image_nonempty, range_between, symbols_at,
+    Buffer, DisjointImages, ImageRanges, SYMBOLS_LIMIT, SymbolRange, range_between, symbols_at,
 };
 
 /// The results of a proof so far, with their symbols in one buffer, and the images that were read
 /// from the last of them. In this file the `place` of a result is its range in the buffer.
-/// (`Frames::places` returns other places: where each symbol of an expression occurs.)
 #[derive(Drop)]
 pub struct Results {
     /// The symbols of all results.
@@ -53,18 +40,18 @@ pub struct Results {
     weight: usize,
     /// How many symbols the buffer may hold.
     symbols_limit: usize,
-    /// The variables of long results, and the pairs of variables that were found to be disjoint.
-    cache: DisjointCache,
+    /// Decides whether images are disjoint.
+    disjoint_images: DisjointImages,
 }
 
 impl Model for Results {
-    ghost use Rattle.verify.specs.ResultPlaces.{AreHeld, HeldResults, held};
+    ghost use Rattle.verify.specs.ResultPlaces.{AreResultRanges, HeldResults, held};
 
     ghost Value = { HeldResults };
 
-    ghost view = { λ a. held a.symbols a.images a.stack.items a.saved.items a.weight a.cache.about };
+    ghost view = { λ a. held a.symbols a.images a.stack.items a.saved.items a.weight };
 
-    ghost invariant = { λ a. AreHeld a.cache.buffer_symbols a.symbols a.images a.stack.items a.saved.items a.weight };
+    ghost invariant = { λ a. AreResultRanges a.symbols a.images a.stack.items a.saved.items a.weight };
 }
 
 impl Results {
@@ -79,7 +66,7 @@ impl Results {
             saved: Vec::new(alloc),
             weight: 0,
             symbols_limit: SYMBOLS_LIMIT,
-            cache: DisjointCache::new(alloc),
+            disjoint_images: DisjointImages::new(alloc),
         }
     }
 
@@ -91,27 +78,13 @@ impl Results {
         self.symbols_limit = symbols_limit;
     }
 
-    /// Repeats some of the long searches for pairs that proofs made, so that the frames keep the
-    /// answers.
+    /// Begins a proof: removes all results and images, and adds an empty saved result for each of
+    /// `label_count` labels. Keeps the memory.
     ///
-    /// Cost: that of `DisjointCache::repeat_searches`.
-    pub fn repeat_searches(&mut self, frames: &mut Frames)
-        ensures results { self.new ≡ self.old }
-        ensures frames { frames.new ≡ frames.old }
+    /// Errors: an allocation fails. Cost: the number of labels.
+    pub fn start(&mut self, label_count: usize) -> Result<(), AllocError>
+        ensures { OnOk result (self.new.results ≡ record { stack = []; saved = replicate label_count []; weight = 0 }) }
     {
-        self.cache.repeat_searches(frames);
-    }
-
-    /// Begins a proof under the pairs that are active at its statement: removes all results and
-    /// images, and adds an empty saved result for each of `label_count` labels. Keeps the memory.
-    ///
-    /// Errors: an allocation fails. Cost: the number of labels, and that of
-    /// `DisjointCache::begin_proof`.
-    pub fn start(&mut self, pairs: &Pairs<'_>, label_count: usize) -> Result<(), AllocError>
-        ensures about { self.new.about ≡ pairs.now }
-        ensures results { OnOk result (self.new.results ≡ record { stack = []; saved = replicate label_count []; weight = 0 }) }
-    {
-        self.cache.begin_proof(pairs);
         self.images.clear();
         self.symbols.truncate(0);
         self.stack.clear();
@@ -127,10 +100,7 @@ impl Results {
     /// Errors: an allocation fails, or the buffer would exceed the limit set by `set_symbol_limit`.
     /// Cost: its symbols.
     #[inline(never)]
-    pub fn add(&mut self, pairs: &Pairs<'_>, expr: &[u32]) -> Result<bool, AllocError>
-        requires about { self.old.about ≡ pairs.now }
-        requires below { AreBelow (length pairs.now.names) expr.now }
-        ensures about { self.new.about ≡ self.old.about }
+    pub fn add(&mut self, expr: &[u32]) -> Result<bool, AllocError>
         ensures adds { IfOk result (λ ok. Adds ok self.old.results self.new.results self.old.results.stack expr.now) }
         ensures unchanged { IfOk result (λ ok. UnchangedUnlessDone ok self.old.results self.new.results) }
     {
@@ -144,7 +114,6 @@ impl Results {
         self.symbols.extend(expr)?;
         self.weight += expr.len();
         let place = range_between(start, self.symbols.len());
-        self.cache.record_expr(pairs, &self.symbols, expr, place)?;
         self.stack.push(place)?;
         Ok(true)
     }
@@ -152,8 +121,7 @@ impl Results {
     /// Saves the last result for the label with that number, from 0.
     pub fn cache_last(&mut self, label: usize)
         requires { label < length self.old.results.saved }
-        ensures about { self.new.about ≡ self.old.about }
-        ensures keeps { CachesLast self.old.results self.new.results label }
+        ensures { CachesLast self.old.results self.new.results label }
     {
         if let Some(&place) = self.stack.last() {
             self.saved[label] = place;
@@ -165,7 +133,6 @@ impl Results {
     /// Errors: an allocation fails.
     #[inline(always)]
     pub fn mark(&mut self) -> Result<bool, AllocError>
-        ensures about { self.new.about ≡ self.old.about }
         ensures marks { IfOk result (λ ok. Marks ok self.old.results self.new.results) }
         ensures unchanged { IfOk result (λ ok. UnchangedUnlessDone ok self.old.results self.new.results) }
     {
@@ -184,7 +151,6 @@ impl Results {
     #[inline(always)]
     pub fn recall(&mut self, index: usize, label_count: usize) -> Result<Option<bool>, AllocError>
         requires { label_count ≤ length self.old.results.saved }
-        ensures about { self.new.about ≡ self.old.about }
         ensures finds { IfOk result (λ done. RecallsAt done label_count self.old.results self.new.results index) }
         ensures unchanged { IfOk result (λ done. IfSome done (λ ok. UnchangedUnlessDone ok self.old.results self.new.results)) }
     {
@@ -209,8 +175,8 @@ impl Results {
     }
 
     /// Reads the images of the variables of the `$f` from the last results, one for each
-    /// hypothesis, and returns how many `$f` precede all `$e`, or `None` if a result does not begin
-    /// with the typecode of its `$f`.
+    /// hypothesis, and returns whether there are `$e`, or `None` if a result does not begin with
+    /// the typecode of its `$f`.
     ///
     /// Errors: an allocation fails. Cost: a step for each hypothesis.
     #[inline(always)]
@@ -218,52 +184,45 @@ impl Results {
         &mut self,
         typecodes: &[u32],
         hypotheses: &Hypotheses<'_>,
-    ) -> Result<Option<usize>, AllocError>
+    ) -> Result<Option<bool>, AllocError>
         requires same { length typecodes.now ≡ length hypotheses.now }
         requires count { length hypotheses.now ≤ length self.old.results.stack }
         requires different { AreDifferent hypotheses.now }
-        ensures about { self.new.about ≡ self.old.about }
         ensures same { self.new.results ≡ self.old.results }
         ensures read { IfOk result (λ r. Reads (is_some r) typecodes.now hypotheses.now (top (length hypotheses.now) self.old.results.stack) self.new.images) }
-        ensures floats { IfOk result (λ r. IfSome r (AreLeadingFloats hypotheses.now)) }
+        ensures essentials { IfOk result (λ r. IfSome r (HasSeenEssentials hypotheses.now)) }
     {
         let places = &self.stack[self.stack.len() - hypotheses.len()..];
         let symbols = self.symbols.as_slice();
         read_off(&mut self.images, symbols, typecodes, hypotheses, places)
     }
 
-    /// Returns whether the last results for the `$e` of the assertion at a position are their
-    /// expressions with the images substituted. `leading_count` is the number of `$f` that precede
-    /// all `$e`. Results for `$f` are not read.
+    /// Returns whether the last results for the `$e` are their expressions with the images
+    /// substituted. Results for `$f` are not read. If `has_essentials` is false, there are no `$e`.
     ///
-    /// Cost: the symbols that agree; if there are long `$e`, that of `long_hypotheses_match`.
+    /// Cost: a step for each hypothesis, if there are `$e`, and the symbols that agree.
     #[inline(always)]
     pub fn hypotheses_match(
         &self,
         frames: &Frames,
-        cited: usize,
         hypotheses: &Hypotheses<'_>,
-        leading_count: usize,
-        remaining: &mut RemainingSymbols,
+        has_essentials: bool,
     ) -> bool
-        requires leading { AreLeadingFloats hypotheses.now leading_count }
+        requires essentials { HasSeenEssentials hypotheses.now has_essentials }
         requires legal { HasLegalProperties frames.now.statements frames.now.names }
-        requires assertion { (s : Statement) × HasAssertion frames.now.statements cited s }
-        requires numbered_hypotheses { AreHypothesesOf frames.now.statements frames.now.names cited hypotheses.now }
         requires present { ArePresent frames.now.statements hypotheses.now }
         requires count { length hypotheses.now ≤ length self.now.results.stack }
         requires over { AreOver frames.now.names self.now.images }
         requires named { AllBelow (length frames.now.names) self.now.results.stack }
         ensures { IsTrue result ↔ LastResultsMatch frames.now hypotheses.now self.now }
     {
+        if !has_essentials {
+            return true;
+        }
         let places = &self.stack[self.stack.len() - hypotheses.len()..];
-        for k in leading_count..hypotheses.len() {
+        for k in 0..hypotheses.len() {
             if let Hypothesis::Essential(position) = hypotheses.get(k) {
                 let expr = frames.expr(position as usize);
-                if expr.len() >= LONG_EXPRESSION {
-                    let hypotheses = hypotheses.copy();
-                    return self.long_hypotheses_match(frames, cited, &hypotheses, k, remaining);
-                }
                 if !self.symbols.matches(&self.images, expr, places[k]) {
                     return false;
                 }
@@ -272,127 +231,23 @@ impl Results {
         true
     }
 
-    /// Returns whether the last results for the `$e` from an index on are their expressions with
-    /// the images substituted. A long expression is compared by its constants and its variables
-    /// whose images are not empty, if their occurrences are few.
-    ///
-    /// Cost: a step for each hypothesis, the symbols that agree, and the occurrences of constants
-    /// and of variables whose images are not empty in long `$e`, times a logarithm. If an
-    /// allocation fails, the symbols of all expressions.
-    #[cold]
-    #[inline(never)]
-    fn long_hypotheses_match(
-        &self,
-        frames: &Frames,
-        cited: usize,
-        hypotheses: &Hypotheses<'_>,
-        from: usize,
-        remaining: &mut RemainingSymbols,
-    ) -> bool
-        requires legal { HasLegalProperties frames.now.statements frames.now.names }
-        requires assertion { (s : Statement) × HasAssertion frames.now.statements cited s }
-        requires numbered_hypotheses { AreHypothesesOf frames.now.statements frames.now.names cited hypotheses.now }
-        requires present { ArePresent frames.now.statements hypotheses.now }
-        requires count { length hypotheses.now ≤ length self.now.results.stack }
-        requires over { AreOver frames.now.names self.now.images }
-        requires named { AllBelow (length frames.now.names) self.now.results.stack }
-        requires before { LastResultsMatchBefore from frames.now hypotheses.now self.now }
-        ensures { IsTrue result ↔ LastResultsMatch frames.now hypotheses.now self.now }
-    {
-        let places = &self.stack[self.stack.len() - hypotheses.len()..];
-        let listed = list_symbols(frames, cited, &self.images, hypotheses, remaining).is_ok();
-        for k in from..hypotheses.len() {
-            if let Hypothesis::Essential(position) = hypotheses.get(k) {
-                let expr = frames.expr(position as usize);
-                let matched = essential_matches(
-                    &self.symbols,
-                    &self.images,
-                    frames,
-                    position,
-                    expr,
-                    listed,
-                    remaining,
-                    places[k],
-                );
-                if !matched {
-                    return false;
-                }
-            }
-        }
-        true
-    }
-
-    /// Returns those symbols of the expression of the statement at a position whose images are not
-    /// empty, if the expression is long and these symbols are few; else, or if an allocation fails,
-    /// the expression. Substitution gives the same result for both.
-    ///
-    /// Cost: the distinct symbols of a long expression, and the symbols that are returned.
-    #[inline(always)]
-    pub fn shortened<'a>(
-        &self,
-        frames: &Frames,
-        position: usize,
-        expr: &'a [u32],
-        remaining: &'a mut RemainingSymbols,
-    ) -> &'a [u32]
-        requires distinct { AreDistinct frames.now.names }
-        requires below { AreBelow (length frames.now.names) expr.now }
-        requires stands { (s : Statement) × IsExprAt frames.now.statements frames.now.names position expr.now s }
-        ensures same { code_apply self.now.images result.now ≡ code_apply self.now.images expr.now }
-        ensures below { AreBelow (length frames.now.names) result.now }
-    {
-        if expr.len() < LONG_EXPRESSION {
-            return expr;
-        }
-        self.shorten(frames, position, expr, remaining)
-    }
-
-    /// Returns the answer of `shortened` for a long expression.
-    #[cold]
-    #[inline(never)]
-    fn shorten<'a>(
-        &self,
-        frames: &Frames,
-        position: usize,
-        expr: &'a [u32],
-        remaining: &'a mut RemainingSymbols,
-    ) -> &'a [u32]
-        requires distinct { AreDistinct frames.now.names }
-        requires below { AreBelow (length frames.now.names) expr.now }
-        requires stands { (s : Statement) × IsExprAt frames.now.statements frames.now.names position expr.now s }
-        ensures same { code_apply self.now.images result.now ≡ code_apply self.now.images expr.now }
-        ensures below { AreBelow (length frames.now.names) result.now }
-    {
-        let Some(places) = frames.places(position) else {
-            return expr;
-        };
-        let Ok(found) = remaining.find_nonempty(&self.images, expr, places) else {
-            return expr;
-        };
-        match found {
-            Some(symbols) => symbols,
-            None => expr,
-        }
-    }
-
     /// Returns whether the images of each two variables of each group are disjoint at the statement
     /// of the pairs.
     ///
-    /// Errors: an allocation fails. Cost: that of `DisjointCache::are_groups_disjoint`.
+    /// Errors: an allocation fails. Cost: that of `DisjointImages::are_groups_disjoint`.
     #[inline(always)]
     pub fn are_disjoint(
         &mut self,
         pairs: &Pairs<'_>,
         groups: &Groups<'_>,
     ) -> Result<bool, AllocError>
-        requires about { self.old.about ≡ pairs.now }
         requires distinct { AreDistinct pairs.now.names }
         requires over { AreOver pairs.now.names self.old.images }
         requires below { AllBelow (length pairs.now.names) groups.now }
         ensures same { self.new ≡ self.old }
         ensures disjoint { IfOk result (λ ok. ok ≡ are_numbered_groups_disjoint pairs.now self.old.images groups.now) }
     {
-        self.cache
+        self.disjoint_images
             .are_groups_disjoint(pairs, groups, &self.symbols, &self.images)
     }
 
@@ -400,19 +255,10 @@ impl Results {
     /// returns `false` if the proof would be too heavy.
     ///
     /// Errors: an allocation fails, or the buffer would exceed the limit set by `set_symbol_limit`.
-    /// Cost: the symbols read and written, and that of `DisjointCache::record_result`.
+    /// Cost: the symbols of the expression, and those written.
     #[inline(always)]
-    pub fn apply(
-        &mut self,
-        pairs: &Pairs<'_>,
-        count: usize,
-        expr: &[u32],
-    ) -> Result<bool, AllocError>
-        requires about { self.old.about ≡ pairs.now }
-        requires over { AreOver pairs.now.names self.old.images }
-        requires below { AreBelow (length pairs.now.names) expr.now }
-        requires count { count ≤ length self.old.results.stack }
-        ensures about { self.new.about ≡ self.old.about }
+    pub fn apply(&mut self, count: usize, expr: &[u32]) -> Result<bool, AllocError>
+        requires { count ≤ length self.old.results.stack }
         ensures adds { IfOk result (λ ok. Adds ok self.old.results self.new.results (below count self.old.results.stack) (code_apply self.old.images expr.now)) }
         ensures unchanged { IfOk result (λ ok. UnchangedUnlessDone ok self.old.results self.new.results) }
     {
@@ -428,20 +274,17 @@ impl Results {
         }
         let place = range_between(start, self.symbols.len());
         self.weight += self.symbols.len() - start;
-        self.cache
-            .record_result(pairs, &self.symbols, &self.images, expr, place)?;
         truncate_and_push(&mut self.stack, keep, place)?;
         Ok(true)
     }
 
-    /// Removes all results and images. Frees the memory of the results, and that of the cache as
-    /// `DisjointCache::release` does, but not that of the table of images.
+    /// Removes all results and images. Frees their memory, but not that of the table of images.
     ///
     /// Does not allocate.
     pub fn release(&mut self, alloc: Global)
         ensures { self.new.results ≡ record { stack = []; saved = []; weight = 0 } }
     {
-        self.cache.release(alloc);
+        self.disjoint_images.release(alloc);
         self.images.clear();
         self.symbols = Buffer::new(alloc);
         self.stack = Vec::new(alloc);
@@ -493,136 +336,6 @@ impl Results {
     }
 }
 
-/// Lists, for each long `$e` of the assertion at a position, those of its variables whose images
-/// are not empty.
-///
-/// Errors: an allocation fails.
-/// Cost: a step for each hypothesis, and n log n for n occurrences of such variables in long `$e`.
-fn list_symbols(
-    frames: &Frames,
-    cited: usize,
-    images: &ImageRanges,
-    hypotheses: &Hypotheses<'_>,
-    remaining: &mut RemainingSymbols,
-) -> Result<(), AllocError>
-    requires assertion { (s : Statement) × HasAssertion frames.now.statements cited s }
-    requires numbered_hypotheses { AreHypothesesOf frames.now.statements frames.now.names cited hypotheses.now }
-    ensures { OnOk result ((symbols : List ℕ) → AreListed frames.now.statements frames.now.names cited hypotheses.now (images_at symbols images.now) remaining.new.keys) }
-{
-    remaining.clear_listed();
-    for k in 0..hypotheses.len() {
-        list_hypothesis(frames, cited, images, hypotheses.get(k), remaining)?;
-    }
-    remaining.sort_listed();
-    Ok(())
-}
-
-/// Lists the variable of a hypothesis for each long `$e` that has it, if the hypothesis is a `$f`
-/// and the image is not empty.
-///
-/// Errors: an allocation fails.
-fn list_hypothesis(
-    frames: &Frames,
-    cited: usize,
-    images: &ImageRanges,
-    hypothesis: Hypothesis,
-    remaining: &mut RemainingSymbols,
-) -> Result<(), AllocError>
-    requires named { (x : ℕ) → hypothesis ≡ Float x → x < length frames.now.names }
-    requires assertion { (s : Statement) × HasAssertion frames.now.statements cited s }
-    ensures kept { OnOk result ((n : ℕ) → In n remaining.old.keys → In n remaining.new.keys) }
-    ensures listed { OnOk result (IsListedIfNonempty frames.now cited images.now hypothesis remaining.new.keys) }
-{
-    let Hypothesis::Float(variable) = hypothesis else {
-        return Ok(());
-    };
-    if !is_image_nonempty(images, variable) {
-        return Ok(());
-    }
-    list_symbol(frames, cited, variable, remaining)
-}
-
-/// Lists a symbol for each long `$e` that has it, among those of the assertion at a position.
-///
-/// Errors: an allocation fails.
-fn list_symbol(
-    frames: &Frames,
-    cited: usize,
-    symbol: u32,
-    remaining: &mut RemainingSymbols,
-) -> Result<(), AllocError>
-    requires named { symbol < length frames.now.names }
-    requires assertion { (s : Statement) × HasAssertion frames.now.statements cited s }
-    ensures kept { OnOk result ((n : ℕ) → In n remaining.old.keys → In n remaining.new.keys) }
-    ensures listed { OnOk result (IsListed frames.now.statements frames.now.names cited symbol remaining.new.keys) }
-{
-    let mut stack = frames.long_essentials(symbol, cited);
-    while let Some(position) = stack.pop() {
-        remaining.add_listed(position, symbol)?;
-    }
-    Ok(())
-}
-
-/// Finds those symbols of the expression of the `$e` at a position that are constants or are listed
-/// for it, and returns whether the expression is long and these are few. Returns `false` if an
-/// allocation fails.
-fn find_remaining(
-    frames: &Frames,
-    position: u32,
-    expr: &[u32],
-    remaining: &mut RemainingSymbols,
-) -> bool
-    requires distinct { AreDistinct frames.now.names }
-    requires below { AreBelow (length frames.now.names) expr.now }
-    requires stands { (label : Name) × (e : Expr) × IsExprAt frames.now.statements frames.now.names position expr.now (Ess label e) }
-    requires ordered { Ascends remaining.old.keys }
-    ensures keys { remaining.new.keys ≡ remaining.old.keys }
-    ensures remaining { IsTrue result → AreRemaining frames.now.statements frames.now.names position expr.now remaining.old.keys remaining.new.found }
-{
-    if expr.len() < LONG_EXPRESSION {
-        return false;
-    }
-    let Some(places) = frames.places(position as usize) else {
-        return false;
-    };
-    match remaining.find_listed(position, expr, places) {
-        Ok(few) => few,
-        Err(_) => false,
-    }
-}
-
-/// Returns whether the result in a range is the expression of the `$e` at a position with the
-/// images substituted. If symbols are listed, reads of a long expression only its constants and the
-/// symbols listed for it, provided that these are few.
-fn essential_matches(
-    symbols: &Buffer,
-    images: &ImageRanges,
-    frames: &Frames,
-    position: u32,
-    expr: &[u32],
-    listed: bool,
-    remaining: &mut RemainingSymbols,
-    place: SymbolRange,
-) -> bool
-    requires inside { AreInside (length symbols.now) images.now }
-    requires place { (place.start ≤ place.end) × (place.end ≤ length symbols.now) }
-    requires distinct { AreDistinct frames.now.names }
-    requires below { AreBelow (length frames.now.names) expr.now }
-    requires stands { (label : Name) × (e : Expr) × IsExprAt frames.now.statements frames.now.names position expr.now (Ess label e) }
-    requires ordered { IsTrue listed → Ascends remaining.old.keys }
-    requires same { IsTrue listed → RemainingSuffice frames.now position expr.now remaining.old.keys (images_at symbols.now images.now) }
-    ensures keys { remaining.new.keys ≡ remaining.old.keys }
-    ensures matches { IsTrue result ↔ (symbols_in symbols.now place ≡ code_apply (images_at symbols.now images.now) expr.now) }
-{
-    if !listed {
-        return symbols.matches(images, expr, place);
-    }
-    if !find_remaining(frames, position, expr, remaining) {
-        return symbols.matches(images, expr, place);
-    }
-    symbols.matches(images, remaining.found(), place)
-}
-
 /// Truncates to the first `keep` ranges and appends one. Usually this overwrites the next range.
 #[inline(always)]
 fn truncate_and_push(
@@ -669,57 +382,9 @@ fn read_float(
     Ok(true)
 }
 
-/// Calls `read_float` for a `$f` after a `$e`.
-#[cold]
-#[inline(never)]
-fn read_later_float(
-    images: &mut ImageRanges,
-    symbols: &[u32],
-    typecode: u32,
-    variable: u32,
-    place: SymbolRange,
-) -> Result<bool, AllocError>
-    requires { place.end ≤ length symbols.now }
-    ensures begins { IfOk result (λ ok. IsTrue ok ↔ BeginsWith symbols.now typecode place) }
-    ensures set { IfOk result (λ ok. IsTrue ok → (y : ℕ) → lookup (nat_eq y) images.new ≡ (if y == variable then Some (tail_of place) else lookup (nat_eq y) images.old)) }
-    ensures inside { (n : ℕ) → place.end ≤ n → AreInside n images.old → AreInside n images.new }
-{
-    read_float(images, symbols, typecode, variable, place)
-}
-
-/// Sets the images of the variables of the `$f` that precede all other hypotheses, and returns how
-/// many these are, or `None` if a result does not begin with the typecode of its `$f`.
-#[inline(always)]
-fn read_leading_floats(
-    images: &mut ImageRanges,
-    symbols: &[u32],
-    typecodes: &[u32],
-    hypotheses: &Hypotheses<'_>,
-    places: &[SymbolRange],
-) -> Result<Option<usize>, AllocError>
-    requires same { length places.now ≡ length hypotheses.now }
-    requires typecodes { length typecodes.now ≡ length hypotheses.now }
-    requires within { AreWithin (length symbols.now) places.now }
-    requires different { AreDifferent hypotheses.now }
-    requires none { images.old ≡ [] }
-    ensures read { IfOk result (ReadsLeading symbols.now typecodes.now hypotheses.now places.now images.new) }
-    ensures floats { IfOk result (λ r. IfSome r (AreLeadingFloats hypotheses.now)) }
-    ensures inside { (n : ℕ) → AreWithin n places.now → AreInside n images.new }
-{
-    for k in 0..hypotheses.len() {
-        let Hypothesis::Float(variable) = hypotheses.get(k) else {
-            return Ok(Some(k));
-        };
-        if !read_float(images, symbols, typecodes[k], variable, places[k])? {
-            return Ok(None);
-        }
-    }
-    Ok(Some(hypotheses.len()))
-}
-
 /// Sets the images of the variables of all `$f`, and no others, to their results without the first
-/// symbols, and returns how many `$f` precede all other hypotheses, or `None` if a result does not
-/// begin with the typecode of its `$f`.
+/// symbols, and returns whether there are `$e`, or `None` if a result does not begin with the
+/// typecode of its `$f`.
 ///
 /// Errors: an allocation fails. Cost: a step for each hypothesis.
 #[inline(always)]
@@ -729,26 +394,26 @@ pub fn read_off(
     typecodes: &[u32],
     hypotheses: &Hypotheses<'_>,
     places: &[SymbolRange],
-) -> Result<Option<usize>, AllocError>
+) -> Result<Option<bool>, AllocError>
     requires same { length places.now ≡ length hypotheses.now }
     requires typecodes { length typecodes.now ≡ length hypotheses.now }
     requires within { AreWithin (length symbols.now) places.now }
     requires different { AreDifferent hypotheses.now }
     ensures ok { IfOk result (λ r. ReadsAll (is_some r) (length hypotheses.now) symbols.now typecodes.now hypotheses.now places.now images.new) }
-    ensures floats { IfOk result (λ r. IfSome r (AreLeadingFloats hypotheses.now)) }
+    ensures essentials { IfOk result (λ r. IfSome r (HasSeenEssentials hypotheses.now)) }
     ensures inside { (n : ℕ) → AreWithin n places.now → AreInside n images.new }
 {
     images.clear();
-    let Some(leading_count) = read_leading_floats(images, symbols, typecodes, hypotheses, places)?
-    else {
-        return Ok(None);
-    };
-    for k in leading_count.saturating_add(1)..hypotheses.len() {
-        if let Hypothesis::Float(variable) = hypotheses.get(k) {
-            if !read_later_float(images, symbols, typecodes[k], variable, places[k])? {
-                return Ok(None);
+    let mut has_essentials = false;
+    for k in 0..hypotheses.len() {
+        match hypotheses.get(k) {
+            Hypothesis::Float(variable) => {
+                if !read_float(images, symbols, typecodes[k], variable, places[k])? {
+                    return Ok(None);
+                }
             }
+            Hypothesis::Essential(_) => has_essentials = true,
         }
     }
-    Ok(Some(leading_count))
+    Ok(Some(has_essentials))
 }

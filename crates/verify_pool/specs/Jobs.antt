@@ -3,7 +3,6 @@
 -- one that is not right.
 -- The code deals the jobs out to workers; here they are one list, judged in order.
 use Rattle.std.specs.Prelude.{◌≡◌, ℕ, List, slice_get, Option, Some, IfSome, MatchOption}
-use Rattle.mm_lex.specs.Alphabet.{Name}
 use Rattle.mm_read.specs.declared.stmt.Stmt.{Stmt}
 use Rattle.mm_read.specs.Statements.{Database}
 use Rattle.verify.specs.Right.{IsProvable, IsRight}
@@ -14,11 +13,9 @@ use Rattle.verify_pool.specs.Least.{IsBefore}
 abbrev pub IsJob : Database → Job → Type 0
 IsJob S job = (s : Stmt) × IsProvable S job.at s
 
--- jobs, with the statements that they are checked against, and the names for which numbers stand in
--- the frames
+-- jobs, with the statements that they are checked against
 pub record JobList : Type 0 where
   pub statements : Database
-  pub names : List Name
   pub jobs : List Job
 
 -- at the position of each of the jobs is a `$p`

@@ -1,7 +1,6 @@
 //! Checkers that are reused from text to text.
-ghost use Rattle.std.specs.Prelude.{◌≡◌, ◌≤◌, vec_len, OnOk};
+ghost use Rattle.std.specs.Prelude.{◌≤◌, vec_len, OnOk};
 
-use frame::Frames;
 use std::alloc::{AllocError, Global};
 use verify::Checker;
 
@@ -25,7 +24,7 @@ pub struct Worker {
 /// and kept, with their buffers, until memory runs out. Only the checker of the calling thread
 /// takes heavy proofs, so that the memory for a heavy proof is needed only once.
 ///
-/// `Work::begin` prepares each of them, whatever it judged before, so contracts see nothing of
+/// A checker judges a proof the same way whatever it judged before, so contracts see nothing of
 /// them.
 #[derive(Drop)]
 pub struct Checkers {
@@ -58,20 +57,6 @@ impl Checkers {
         } else {
             MAX_WORKER_SYMBOLS
         });
-    }
-
-    /// Repeats in the frames some of the long searches for disjoint pairs of variables that the
-    /// checkers made for the last jobs. The frames keep the answers, so that later searches for
-    /// these pairs are short.
-    ///
-    /// Cost: that of the searches, of which there are at most 128 for each checker.
-    pub fn repeat_searches(&mut self, frames: &mut Frames)
-        ensures { frames.new ≡ frames.old }
-    {
-        self.calling.repeat_searches(frames);
-        for worker in &mut self.workers {
-            worker.checker.repeat_searches(frames);
-        }
     }
 
     /// Frees memory that large proofs needed, as `Checker::shrink` does.

@@ -1,7 +1,6 @@
 //! Proofs that are given as their items.
 
 ghost use Rattle.std.specs.Prelude.{◌≡◌, IfOk};
-ghost use Rattle.verify.specs.CitationCache.{IsCacheFor};
 ghost use Rattle.verify.specs.Right.{IsAnswerTo};
 ghost use Rattle.verify_pool.specs.Jobs.{AreJobs, IsJob, IsRightAt, IsRightJob, IsFirstWrongJob};
 
@@ -61,28 +60,21 @@ impl<'a> Model for Jobs<'a> {
 
     ghost Value = { JobList };
 
-    ghost view = { λ a. record { statements = a.frames.now.statements; names = a.frames.now.names; jobs = a.jobs.now } };
+    ghost view = { λ a. record { statements = a.frames.now.statements; jobs = a.jobs.now } };
 
     ghost invariant = { λ a. AreJobs a.frames.now.statements a.jobs.now };
 }
 
 impl<'a> Work for Jobs<'a> {
     ghost use Rattle.std.specs.Prelude.{length};
-    ghost use Rattle.verify.specs.CitationCache.{IsCacheFor};
     ghost use Rattle.verify_pool.specs.Jobs.{IsRightAt};
 
     ghost count = { λ work. length work.jobs };
 
     ghost right = { λ work. IsRightAt work.statements work.jobs };
 
-    ghost is_cache_for = { λ work. IsCacheFor work.statements work.names };
-
     fn count(&self) -> usize {
         self.jobs.len()
-    }
-
-    fn begin(&self, checker: &mut Checker) {
-        checker.clear_cache();
     }
 
     fn judge(&self, index: usize, checker: &mut Checker) -> Result<Answer, AllocError> {
@@ -92,10 +84,8 @@ impl<'a> Work for Jobs<'a> {
 
 /// Returns whether the job is right.
 fn check_job(frames: &Frames, job: &Job, checker: &mut Checker) -> Result<Answer, AllocError>
-    requires job { IsJob frames.now.statements job.now }
-    requires kept { IsCacheFor frames.now.statements frames.now.names checker.old }
-    ensures kept { IsCacheFor frames.now.statements frames.now.names checker.new }
-    ensures answer { IfOk result (λ answer. IsAnswerTo answer (IsRightJob frames.now.statements job.now)) }
+    requires { IsJob frames.now.statements job.now }
+    ensures { IfOk result (λ answer. IsAnswerTo answer (IsRightJob frames.now.statements job.now)) }
 {
     match &job.items {
         Some(items) => checker.check(frames, job.at, items),

@@ -136,7 +136,6 @@ fn judge_alone<W: Work, G: Gate>(
 ) -> Result<Option<usize>, AllocError>
     ensures { IfOk result (IsLeast (W.right work.now) (W.count work.now)) }
 {
-    work.begin(checker);
     for index in 0..work.count() {
         gate.pass(Place::Job(index));
         if work.judge(index, checker)? == Answer::Wrong {
@@ -172,7 +171,6 @@ fn judge_stripe<W: Work, G: Gate>(
     ensures { IfOk worker.new.least (λ least. IsFoundInStripe (W.right work.now) (W.count work.now) first step least worker.new.deferred.items) }
 {
     worker.deferred.clear();
-    work.begin(&mut worker.checker);
     worker.least = found_in_stripe(work, first, step, worker, gate);
 }
 
@@ -190,7 +188,6 @@ fn found_in_stripe<W: Work, G: Gate>(
     requires step { (1 ≤ step) × (step ≤ 16) }
     requires first { first < step }
     requires none { worker.old.deferred.items ≡ [] }
-    requires kept { W.is_cache_for work.now worker.old.checker }
     ensures { IfOk result (λ least. IsFoundInStripe (W.right work.now) (W.count work.now) first step least worker.new.deferred.items) }
 {
     let count = work.count();
@@ -215,9 +212,7 @@ fn is_found_wrong<W: Work>(
     checker: &mut Checker,
     deferred: &mut Vec<usize>,
 ) -> Result<bool, AllocError>
-    requires index { index < W.count work.now }
-    requires checker { W.is_cache_for work.now checker.old }
-    ensures checker { W.is_cache_for work.now checker.new }
+    requires { index < W.count work.now }
     ensures wrong { IfOk result (λ wrong. wrong ≡ true → ¬ W.right work.now index) }
     ensures right { IfOk result (λ wrong. wrong ≡ false → W.right work.now index ⊎ IsIn index deferred.new.items) }
     ensures kept { (k : ℕ) → IsIn k deferred.old.items → IsIn k deferred.new.items }
@@ -248,7 +243,6 @@ fn judge_deferred<W: Work>(
         → IfOk result (λ least. IsStripeSettled (W.right work.now) (W.count work.now) first step least) }
 {
     let mut least = least;
-    work.begin(checker);
     for index in deferred {
         least = settle_one(work, *index, least, checker)?;
     }
@@ -265,10 +259,8 @@ fn settle_one<W: Work>(
     least: Option<usize>,
     checker: &mut Checker,
 ) -> Result<Option<usize>, AllocError>
-    requires index { index < W.count work.now }
-    requires kept { W.is_cache_for work.now checker.old }
-    ensures kept { W.is_cache_for work.now checker.new }
-    ensures settled { IfOk result (IsSettled (W.right work.now) index least) }
+    requires { index < W.count work.now }
+    ensures { IfOk result (IsSettled (W.right work.now) index least) }
 {
     if is_before(index, least) && work.judge(index, checker)? == Answer::Wrong {
         return Ok(Some(index));

@@ -3,15 +3,15 @@ use Rattle.verify.proofs.StopLemmas.{stops-wrong, stops-right, stops-other}
 use Rattle.verify.proofs.checker.check_numbers.Goals as goal
 use Rattle.verify.proofs.checker.check_numbers.Goals.{else-done-numbers-via-then-done-numbers+else-is_only, else-done-numbers-via-else-done-numbers}
 
-pub returns-then-is_only-clause-answer : goal.returns-then-is_only-clause-answer
-returns-then-is_only-clause-answer c = λ labels are.
+pub returns-then-is_only : goal.returns-then-is_only
+returns-then-is_only c = λ labels are.
     let s = c.requires.provable.0 in let stands = c.requires.provable.1.stands in let l = length-map c.args.numbers.now (item_of labels) in
     stops-right c.args.frames.now.statements c.args.frames.now.names c.args.at c.active_pairs-pairs.ensures.legal (items_of labels c.args.numbers.now) c.in_ok-done.done
     (without_cached (length c.args.table.now) c.run_items.new.buffers.results.results) s stands (c.in_ok-done.ensures.stops labels are) c.expr.result.now
     (let all = c.if-done-numbers.true in omega (arith, all, l)) (c.expr.ensures.same s stands) (c.is_only.ensures.only.0 c.if-is_only.true) c.is_only.ensures.light
 
-pub returns-else-done-numbers-clause-answer : goal.returns-else-done-numbers-clause-answer
-returns-else-done-numbers-clause-answer c = λ labels are right.
+pub returns-else-done-numbers : goal.returns-else-done-numbers
+returns-else-done-numbers c = λ labels are right.
     let s = c.requires.provable.0 in let stands = c.requires.provable.1.stands in let l = length-map c.args.numbers.now (item_of labels) in
     let stops = c.in_ok-done.ensures.stops labels are in
     elim c.else-done-numbers.branch [

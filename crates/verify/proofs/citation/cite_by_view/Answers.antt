@@ -1,4 +1,4 @@
-use Rattle.verify.proofs.Words.{◌≡◌, ℕ, ◌<◌, ◌↔◌, Bool, true, false, is_some, IsTrue, List, length, map, arith, sym, ap, ◌∙◌, subst, IfOk-weaker, Name, Database, AreDistinct, decode, AllBelow, AreBelow, are_groups_disjoint, CodeImages, images_of_names, AreOver, Hypothesis, Reads, HypothesesMatch, Results, below, top, Adds}
+use Rattle.verify.proofs.Words.{◌≡◌, ℕ, ◌<◌, ◌↔◌, Bool, true, false, is_some, IsTrue, List, length, map, arith, sym, ap, ◌∙◌, subst, IfOk-weaker, Name, Database, AreDistinct, decode, AllBelow, are_groups_disjoint, CodeImages, images_of_names, AreOver, Hypothesis, Reads, HypothesesMatch, Results, below, top, Adds}
 use Rattle.verify.proofs.RequiredHypotheses.{required-lengths, required-different, required-standing}
 use Rattle.verify.proofs.CitationLemmas.{over-read, has-cited, not-cited}
 use Rattle.verify.proofs.citation.cite_by_view.Goals as goal
@@ -25,67 +25,44 @@ read_images-requires-clause-same c = let l = required-lengths _ _ _ _ _ (c.requi
 pub read_images-requires-clause-different : goal.read_images-requires-clause-different
 read_images-requires-clause-different c = required-different _ _ _ c.requires.may.assertion.0 _ _ (c.requires.may.ready.legal.well_typed _ c.requires.may.assertion.0 c.requires.may.assertion.1) (c.requires.cited c.requires.may.assertion.0 c.requires.may.assertion.1.0).numbered_hypotheses
 
-pub hypotheses_match-requires-clause-numbered_hypotheses : goal.hypotheses_match-requires-clause-numbered_hypotheses
-hypotheses_match-requires-clause-numbered_hypotheses c = λ s at. (c.args.cited.now.typecodes.now, (c.requires.cited s at).numbered_hypotheses)
-
 pub hypotheses_match-requires-clause-present : goal.hypotheses_match-requires-clause-present
 hypotheses_match-requires-clause-present c = required-standing _ _ _ _ _ (c.requires.cited c.requires.may.assertion.0 c.requires.may.assertion.1.0).numbered_hypotheses
 
 pub hypotheses_match-requires-clause-over : goal.hypotheses_match-requires-clause-over
-hypotheses_match-requires-clause-over c = over-read _ _ _ _ c.requires.may c.args.cited.now c.requires.cited c.read_images.new.self.images (let h = c.if-count-len.false in omega (arith, h, c.len.ensures)) (reads-as _ true _ _ _ _ (ap is_some c.in-Some.is) c.in_ok-leading_count.ensures.read)
+hypotheses_match-requires-clause-over c = over-read _ _ _ c.requires.may c.args.cited.now c.requires.cited c.read_images.new.self.images (let h = c.if-count-len.false in omega (arith, h, c.len.ensures)) (reads-as _ true _ _ _ _ (ap is_some c.in-Some.is) c.in_ok-has_essentials.ensures.read)
 
 pub are_disjoint-requires-clause-over : goal.are_disjoint-requires-clause-over
-are_disjoint-requires-clause-over c = subst (λ v. AreOver v c.read_images.new.self.images) (sym c.requires.may.ready.names) (over-read _ _ _ _ c.requires.may c.args.cited.now c.requires.cited c.read_images.new.self.images (let h = c.if-count-len.false in omega (arith, h, c.len.ensures)) (reads-as _ true _ _ _ _ (ap is_some c.in-Some.is) c.in_ok-leading_count.ensures.read))
+are_disjoint-requires-clause-over c = subst (λ v. AreOver v c.read_images.new.self.images) (sym c.requires.may.ready.names) (over-read _ _ _ c.requires.may c.args.cited.now c.requires.cited c.read_images.new.self.images (let h = c.if-count-len.false in omega (arith, h, c.len.ensures)) (reads-as _ true _ _ _ _ (ap is_some c.in-Some.is) c.in_ok-has_essentials.ensures.read))
 
 pub returns-then-count-len-clause-effect : goal.returns-then-count-len-clause-effect
 returns-then-count-len-clause-effect c =
     let few : length c.args.results.now.results.stack < length c.args.cited.now.hypotheses = omega (arith, c.if-count-len.true, c.len.ensures) in
-    not-cited _ _ _ _ c.requires.may c.args.cited.now c.requires.cited c.args.results.now.results (λ f m. (let many = m.many in omega (arith, few, many)))
+    not-cited _ _ _ c.requires.may c.args.cited.now c.requires.cited c.args.results.now.results (λ f m. (let many = m.many in omega (arith, few, many)))
 
 pub returns-in_default-clause-effect : goal.returns-in_default-clause-effect
 returns-in_default-clause-effect c =
-    let r = reads-as _ false _ _ _ _ (ap is_some c.in_default.is) c.in_ok-leading_count.ensures.read in
-    not-cited _ _ _ _ c.requires.may c.args.cited.now c.requires.cited c.read_images.new.self.results (λ f m. r.3 (m.typed r.0 r.1 r.2))
+    let r = reads-as _ false _ _ _ _ (ap is_some c.in_default.is) c.in_ok-has_essentials.ensures.read in
+    not-cited _ _ _ c.requires.may c.args.cited.now c.requires.cited c.read_images.new.self.results (λ f m. r.3 (m.typed r.0 r.1 r.2))
 
 pub returns-then-not-hypotheses_match-clause-effect : goal.returns-then-not-hypotheses_match-clause-effect
 returns-then-not-hypotheses_match-clause-effect c =
-    not-cited _ _ _ _ c.requires.may c.args.cited.now c.requires.cited c.read_images.new.self.results
-    (λ f m. (let e = (fit-as _ _ _ _ _ _ _ (ap (λ (v : Results ℕ). v.stack) c.in_ok-leading_count.ensures.same) c.hypotheses_match.ensures).1 (m.fits c.read_images.new.self.images (reads-as _ true _ _ _ _ (ap is_some c.in-Some.is) c.in_ok-leading_count.ensures.read)) in let t = c.if-not-hypotheses_match.true in cc))
+    not-cited _ _ _ c.requires.may c.args.cited.now c.requires.cited c.read_images.new.self.results
+    (λ f m. (let e = (fit-as _ _ _ _ _ _ _ (ap (λ (v : Results ℕ). v.stack) c.in_ok-has_essentials.ensures.same) c.hypotheses_match.ensures).1 (m.fits c.read_images.new.self.images (reads-as _ true _ _ _ _ (ap is_some c.in-Some.is) c.in_ok-has_essentials.ensures.read)) in let t = c.if-not-hypotheses_match.true in cc))
 
 pub returns-then-not-branch-clause-effect : goal.returns-then-not-branch-clause-effect
 returns-then-not-branch-clause-effect c =
-    not-cited _ _ _ _ c.requires.may c.args.cited.now c.requires.cited c.are_disjoint.new.self.results
-    (λ f m. (let e : true ≡ false = sym (m.disjoint c.read_images.new.self.images (reads-as _ true _ _ _ _ (ap is_some c.in-Some.is) c.in_ok-leading_count.ensures.read)) ∙ disjoint-by _ _ _ _ _ c.read_images.new.self.images c.args.cited.now.groups _ c.requires.may.ready.active c.requires.may.ready.names c.in_ok-are_disjoint.ensures.disjoint c.if-not-branch.true in cc))
+    not-cited _ _ _ c.requires.may c.args.cited.now c.requires.cited c.are_disjoint.new.self.results
+    (λ f m. (let e : true ≡ false = sym (m.disjoint c.read_images.new.self.images (reads-as _ true _ _ _ _ (ap is_some c.in-Some.is) c.in_ok-has_essentials.ensures.read)) ∙ disjoint-by _ _ _ _ _ c.read_images.new.self.images c.args.cited.now.groups _ c.requires.may.ready.active c.requires.may.ready.names c.in_ok-are_disjoint.ensures.disjoint c.if-not-branch.true in cc))
 
 pub returns-clause-effect : goal.returns-clause-effect
 returns-clause-effect c =
     IfOk-weaker c.apply.result _ _
-    (λ ok adds. has-cited _ _ _ _ c.requires.may c.args.cited.now c.requires.cited ok _ c.read_images.new.self.images (let h = c.if-count-len.false in omega (arith, h, c.len.ensures)) (reads-as _ true _ _ _ _ (ap is_some c.in-Some.is) c.in_ok-leading_count.ensures.read) ((fit-as _ _ _ _ _ _ _ (ap (λ (v : Results ℕ). v.stack) c.in_ok-leading_count.ensures.same) c.hypotheses_match.ensures).0 c.if-not-hypotheses_match.false)
+    (λ ok adds. has-cited _ _ _ c.requires.may c.args.cited.now c.requires.cited ok _ c.read_images.new.self.images (let h = c.if-count-len.false in omega (arith, h, c.len.ensures)) (reads-as _ true _ _ _ _ (ap is_some c.in-Some.is) c.in_ok-has_essentials.ensures.read) ((fit-as _ _ _ _ _ _ _ (ap (λ (v : Results ℕ). v.stack) c.in_ok-has_essentials.ensures.same) c.hypotheses_match.ensures).0 c.if-not-hypotheses_match.false)
     (disjoint-by _ _ _ _ _ c.read_images.new.self.images c.args.cited.now.groups _ c.requires.may.ready.active c.requires.may.ready.names c.in_ok-are_disjoint.ensures.disjoint c.if-not-branch.false)
-    (adds-as ok c.read_images.new.self.results _ _ _ _ _ c.in_ok-leading_count.ensures.same c.len-count.ensures adds)) (rw (c.shortened-conclusion.ensures.same, c.are_disjoint.ensures.same) at c.apply.ensures.adds)
+    (adds-as ok c.read_images.new.self.results _ _ _ _ _ c.in_ok-has_essentials.ensures.same c.len-count.ensures adds)) (rw c.are_disjoint.ensures.same at c.apply.ensures.adds)
 
 pub are_disjoint-requires-clause-below : goal.are_disjoint-requires-clause-below
 are_disjoint-requires-clause-below c = subst (λ ns. AllBelow (length ns) c.args.cited.now.groups) (sym c.requires.may.ready.names) (c.requires.cited c.requires.may.assertion.0 c.requires.may.assertion.1.0).groups_below
 
-pub are_disjoint-requires-clause-about : goal.are_disjoint-requires-clause-about
-are_disjoint-requires-clause-about c = c.read_images.ensures.about ∙ c.requires.may.ready.same
-
 pub are_disjoint-requires-clause-distinct : goal.are_disjoint-requires-clause-distinct
 are_disjoint-requires-clause-distinct c = subst AreDistinct (sym c.requires.may.ready.names) c.requires.may.ready.legal.distinct
-
-pub apply-requires-clause-about : goal.apply-requires-clause-about
-apply-requires-clause-about c = rw c.are_disjoint.ensures.same (c.read_images.ensures.about ∙ c.requires.may.ready.same)
-
-pub apply-requires-clause-over : goal.apply-requires-clause-over
-apply-requires-clause-over c = rw c.are_disjoint.ensures.same (subst (λ v. AreOver v c.read_images.new.self.images) (sym c.requires.may.ready.names) (over-read _ _ _ _ c.requires.may c.args.cited.now c.requires.cited c.read_images.new.self.images (let h = c.if-count-len.false in omega (arith, h, c.len.ensures)) (reads-as _ true _ _ _ _ (ap is_some c.in-Some.is) c.in_ok-leading_count.ensures.read)))
-
-pub apply-requires-clause-below : goal.apply-requires-clause-below
-apply-requires-clause-below c = subst (λ ns. AreBelow (length ns) c.shortened-conclusion.result.now) (sym c.requires.may.ready.names) c.shortened-conclusion.ensures.below
-
-pub shortened-conclusion-requires-clause-below : goal.shortened-conclusion-requires-clause-below
-shortened-conclusion-requires-clause-below c = (c.requires.cited c.requires.may.assertion.0 c.requires.may.assertion.1.0).conclusion_below
-
-pub shortened-conclusion-requires-clause-stands : goal.shortened-conclusion-requires-clause-stands
-shortened-conclusion-requires-clause-stands c =
-    let s = c.requires.may.assertion.0 in
-    (s, record { stands = c.requires.may.assertion.1.0; same = (c.requires.cited s c.requires.may.assertion.1.0).conclusion })

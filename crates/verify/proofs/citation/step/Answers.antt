@@ -20,7 +20,7 @@ pub returns-then-stack_len-len-clause-effect : goal.returns-then-stack_len-len-c
 returns-then-stack_len-len-clause-effect c = λ labels are.
     let found = rw c.in_default.is at c.in_ok-done.ensures.finds in
     let more = rw (c.len-stack_len.ensures, c.len.ensures, found.1) at c.if-stack_len-len.true in
-    rw c.if-done.true (kept-on _ _ _ c.requires.ready.legal c.args.table.now _ _ c.requires.named_and_cached labels c.args.number (c.args.number - 1) _ (suc_back c.args.number c.if-number-eq0.false) are found.0 _ more c.cache_last.ensures.keeps
+    rw c.if-done.true (kept-on _ _ _ c.requires.ready.legal c.args.table.now _ _ c.requires.named_and_cached labels c.args.number (c.args.number - 1) _ (suc_back c.args.number c.if-number-eq0.false) are found.0 _ more c.cache_last.ensures
     (rw (c.if-done.true, found.1) at c.in_ok-done-2.ensures.effect))
 
 pub returns-else-done-clause-effect : goal.returns-else-done-clause-effect

@@ -6,10 +6,8 @@ use Rattle.verify.proofs.failure.run_items.Goals as goal
 pub loop-done-init : goal.loop-done-init
 loop-done-init c = (
   c.requires.ready.legal,
-  start-known c.args.context.now.frames.now.statements c.args.context.now.frames.now.names c.args.context.now.at c.args.table.now c.start.new.self.results c.in_ok-start.ensures.results,
-  λ labels are. reached-start c.args.context.now.frames.now.statements c.args.context.now.frames.now.names c.args.context.now.at c.requires.ready.legal (without_cached (length c.args.table.now) c.start.new.self.results) (start-behind (length c.args.table.now) c.start.new.self.results c.in_ok-start.ensures.results),
-  c.start.ensures.about,
-  c.requires.kept,
+  start-known c.args.context.now.frames.now.statements c.args.context.now.frames.now.names c.args.context.now.at c.args.table.now c.start.new.self.results c.in_ok-start.ensures,
+  λ labels are. reached-start c.args.context.now.frames.now.statements c.args.context.now.frames.now.names c.args.context.now.at c.requires.ready.legal (without_cached (length c.args.table.now) c.start.new.self.results) (start-behind (length c.args.table.now) c.start.new.self.results c.in_ok-start.ensures),
 )
 
 -- a property of the answer of a step holds of the flag that it returned
@@ -19,32 +17,34 @@ went r ok b P h was is = subst P is (IfOk-at_ok P was h)
 pub loop-done-preserved : goal.loop-done-preserved
 loop-done-preserved c = (
   c.loop-done.invariant.0,
-  (went c.run_item.result c.in_ok-run_item.field-0 true
-      (λ v. RunsItemWithTable v c.args.context.now.frames.now.statements c.args.context.now.at c.args.context.now.frames.now.names c.args.table.now (item_of c.requires.entries.0 (get_or c.args.numbers.now c.loop-done.done 0)) c.loop-done.buffers.results.results c.run_item.new.buffers.results.results)
-      (c.run_item.ensures.effect c.requires.entries.0 c.requires.entries.1) c.in_ok-run_item.was c.if-not-branch.false).1 refl,
+  (went c.step.result c.in_ok-step.field-0 true
+      (λ v. RunsItemWithTable v c.args.context.now.frames.now.statements c.args.context.now.at c.args.context.now.frames.now.names c.args.table.now (item_of c.requires.entries.0 (get_or c.args.numbers.now c.loop-done.done 0)) c.loop-done.buffers.results.results c.step.new.buffers.results.results)
+      (c.step.ensures.effect c.requires.entries.0 c.requires.entries.1) c.in_ok-step.was c.if-not-branch.false).1 refl,
   λ labels are.
-      subst (λ is. Reached c.args.context.now.frames.now.statements c.args.context.now.frames.now.names c.args.context.now.at c.loop-done.invariant.0 is (without_cached (length c.args.table.now) c.run_item.new.buffers.results.results)) (sym (items-more labels c.args.numbers.now c.loop-done.done c.loop-done-test.true))
+      subst (λ is. Reached c.args.context.now.frames.now.statements c.args.context.now.frames.now.names c.args.context.now.at c.loop-done.invariant.0 is (without_cached (length c.args.table.now) c.step.new.buffers.results.results)) (sym (items-more labels c.args.numbers.now c.loop-done.done c.loop-done-test.true))
       (reached-step c.args.context.now.frames.now.statements c.args.context.now.frames.now.names c.args.context.now.at c.loop-done.invariant.0
       (map (item_of labels) (take c.loop-done.done c.args.numbers.now)) (item_of labels (get_or c.args.numbers.now c.loop-done.done 0))
-      (without_cached (length c.args.table.now) c.loop-done.buffers.results.results) (without_cached (length c.args.table.now) c.run_item.new.buffers.results.results) (c.loop-done.invariant.2 labels are)
-      (went c.run_item.result c.in_ok-run_item.field-0 true
-      (λ v. RunsItemWithTable v c.args.context.now.frames.now.statements c.args.context.now.at c.args.context.now.frames.now.names c.args.table.now (item_of labels (get_or c.args.numbers.now c.loop-done.done 0)) c.loop-done.buffers.results.results c.run_item.new.buffers.results.results)
-      (c.run_item.ensures.effect labels are) c.in_ok-run_item.was c.if-not-branch.false).0),
-  c.run_item.ensures.about,
-  c.run_item.ensures.kept,
+      (without_cached (length c.args.table.now) c.loop-done.buffers.results.results) (without_cached (length c.args.table.now) c.step.new.buffers.results.results) (c.loop-done.invariant.2 labels are)
+      (went c.step.result c.in_ok-step.field-0 true
+      (λ v. RunsItemWithTable v c.args.context.now.frames.now.statements c.args.context.now.at c.args.context.now.frames.now.names c.args.table.now (item_of labels (get_or c.args.numbers.now c.loop-done.done 0)) c.loop-done.buffers.results.results c.step.new.buffers.results.results)
+      (c.step.ensures.effect labels are) c.in_ok-step.was c.if-not-branch.false).0),
 )
 
-pub returns-then-not-branch-clause-stops : goal.returns-then-not-branch-clause-stops
-returns-then-not-branch-clause-stops c = λ labels are.
-    let S = c.args.context.now.frames.now.statements in let names = c.args.context.now.frames.now.names in let at = c.args.context.now.at in let table = c.args.table.now in
-    stops-at S names at c.loop-done.invariant.0 labels c.args.numbers.now c.loop-done.done
-    (without_cached (length table) c.loop-done.buffers.results.results) (without_cached (length table) c.run_item.new.buffers.results.results) (without_cached (length table) c.run_item.new.buffers.results.results)
-    c.loop-done-test.true (c.loop-done.invariant.2 labels are)
-    (went c.run_item.result c.in_ok-run_item.field-0 false (λ v. RunsItemWithTable v S at names table (item_of labels (get_or c.args.numbers.now c.loop-done.done 0)) c.loop-done.buffers.results.results c.run_item.new.buffers.results.results)
-    (c.run_item.ensures.effect labels are) c.in_ok-run_item.was c.if-not-branch.true).0
-    (ap (without_cached (length table)) (went c.run_item.result c.in_ok-run_item.field-0 false (λ v. UnchangedUnlessDone v c.loop-done.buffers.results.results c.run_item.new.buffers.results.results) c.run_item.ensures.unchanged c.in_ok-run_item.was c.if-not-branch.true))
+pub returns-then-not-branch : goal.returns-then-not-branch
+returns-then-not-branch c = record {
+  stops = λ labels are.
+      let S = c.args.context.now.frames.now.statements in let names = c.args.context.now.frames.now.names in let at = c.args.context.now.at in let table = c.args.table.now in
+      stops-at S names at c.loop-done.invariant.0 labels c.args.numbers.now c.loop-done.done
+      (without_cached (length table) c.loop-done.buffers.results.results) (without_cached (length table) c.step.new.buffers.results.results) (without_cached (length table) c.step.new.buffers.results.results)
+      c.loop-done-test.true (c.loop-done.invariant.2 labels are)
+      (went c.step.result c.in_ok-step.field-0 false (λ v. RunsItemWithTable v S at names table (item_of labels (get_or c.args.numbers.now c.loop-done.done 0)) c.loop-done.buffers.results.results c.step.new.buffers.results.results)
+      (c.step.ensures.effect labels are) c.in_ok-step.was c.if-not-branch.true).0
+      (ap (without_cached (length table)) (went c.step.result c.in_ok-step.field-0 false (λ v. UnchangedUnlessDone v c.loop-done.buffers.results.results c.step.new.buffers.results.results) c.step.ensures.unchanged c.in_ok-step.was c.if-not-branch.true));
+}
 
-pub returns-clause-stops : goal.returns-clause-stops
-returns-clause-stops c = λ labels are.
-    stops-end c.args.context.now.frames.now.statements c.args.context.now.frames.now.names c.args.context.now.at c.loop-done.invariant.0 labels c.args.numbers.now c.loop-done.done _
-    (without_cached (length c.args.table.now) c.loop-done.buffers.results.results) (omega (arith, c.loop-done-test.false)) (omega arith) (c.loop-done.invariant.2 labels are)
+pub returns : goal.returns
+returns c = record {
+  stops = λ labels are.
+      stops-end c.args.context.now.frames.now.statements c.args.context.now.frames.now.names c.args.context.now.at c.loop-done.invariant.0 labels c.args.numbers.now c.loop-done.done _
+      (without_cached (length c.args.table.now) c.loop-done.buffers.results.results) (omega (arith, c.loop-done-test.false)) (omega arith) (c.loop-done.invariant.2 labels are);
+}

@@ -1,4 +1,4 @@
-use Rattle.verify.proofs.Words.{◌≡◌, List, length, map, take, Name, HasLegalProperties, item_of, without_cached, AreNamedAndCached, AreEntries, option_map, ◌++◌, viewed_entries, IsCacheFor}
+use Rattle.verify.proofs.Words.{◌≡◌, List, length, map, take, Name, HasLegalProperties, item_of, without_cached, AreNamedAndCached, AreEntries}
 use Rattle.verify.proofs.StepLemmas.{Reached}
 use Rattle.verify.proofs.failure.run_items.Given as goal
 
@@ -7,7 +7,5 @@ abbrev pub invariant-loop-done : goal.invariant-loop-done
 invariant-loop-done l =
     (legal : HasLegalProperties l.context.frames.now.statements l.context.frames.now.names)
     × AreNamedAndCached l.context.frames.now.statements l.context.at l.context.frames.now.names l.table l.buffers.results.results
-    × ((labels : List Name) → AreEntries l.context.frames.now.statements l.context.at labels (viewed_entries (option_map (λ v. v.now) l.view) ++ l.table)
+    × ((labels : List Name) → AreEntries l.context.frames.now.statements l.context.at labels l.table
     → Reached l.context.frames.now.statements l.context.frames.now.names l.context.at legal (map (item_of labels) (take l.done l.numbers)) (without_cached (length l.table) l.buffers.results.results))
-    × (l.buffers.results.about ≡ l.context.pairs)
-    × IsCacheFor l.context.frames.now.statements l.context.frames.now.names l.buffers.kept

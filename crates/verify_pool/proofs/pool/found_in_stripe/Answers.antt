@@ -14,7 +14,6 @@ loop-index-preserved g c =
         | inl old ↦ c.loop-index.invariant.within k old
         | inr e ↦ (let n = c.count-count.ensures.count in let t = c.loop-index-test.true in omega (arith, e, t, n))
       ];
-      kept = told.checker;
     }
 
 pub returns-then-branch : goal.returns-then-branch

@@ -6,7 +6,6 @@ invariant-loop-index g l = record {
   place : (turn : ℕ) × (l.index ≡ l.first + turn * l.step);
   before : IsStripeRightBefore (λ k. g.W.Work.right l.work k ⊎ IsIn k l.worker.deferred.items) (g.W.Work.count l.work) l.first l.step (Some l.index);
   within : (k : ℕ) → IsIn k l.worker.deferred.items → k < g.W.Work.count l.work;
-  kept : g.W.Work.is_cache_for l.work l.worker.checker;
 }
 
 abbrev pub decreases-loop-index : goal.decreases-loop-index

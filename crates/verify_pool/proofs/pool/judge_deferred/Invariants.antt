@@ -3,8 +3,6 @@ use Rattle.std.proofs.Common.{drop}
 use Rattle.verify_pool.proofs.pool.judge_deferred.Given as goal
 
 abbrev pub invariant-loop-index : goal.invariant-loop-index
-invariant-loop-index g l = record {
-  rest : (first step : ℕ) → IsFoundInStripe (g.W.Work.right l.work) (g.W.Work.count l.work) first step l.fn.least l.deferred
-      → IsFoundInStripe (g.W.Work.right l.work) (g.W.Work.count l.work) first step l.least (drop l.index-index l.deferred);
-  kept : g.W.Work.is_cache_for l.work l.checker;
-}
+invariant-loop-index g l =
+    (first step : ℕ) → IsFoundInStripe (g.W.Work.right l.work) (g.W.Work.count l.work) first step l.fn.least l.deferred
+    → IsFoundInStripe (g.W.Work.right l.work) (g.W.Work.count l.work) first step l.least (drop l.index-index l.deferred)

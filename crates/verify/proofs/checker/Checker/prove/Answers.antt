@@ -2,29 +2,32 @@ use Rattle.verify.proofs.Words.{◌++◌, ◌∙◌, take, sym, subst, IfOk, ite
 use Rattle.verify.proofs.RightLemmas.{unwritten, one-listed, many, read-proves}
 use Rattle.verify.proofs.checker.Checker.prove.Goals as goal
 
-pub returns-in_default-2-clause-answer : goal.returns-in_default-2-clause-answer
-returns-in_default-2-clause-answer c =
-    let s = c.requires.provable.0 in
-    unwritten c.args.frames.now.statements c.args.at s c.args.tokens.now c.requires.provable.1 (sym c.is_compressed.ensures ∙ c.if-not-is_compressed.false) c.as_slice-count.result.now
-    (c.as_slice-count.ensures.value ∙ c.in_ok-fill_mandatory.ensures.mandatory s c.requires.provable.1) (rw c.in_default-2.is at c.in_ok-heading.ensures.read)
+pub returns-in_default : goal.returns-in_default
+returns-in_default c = record {
+  answer =
+      let s = c.requires.provable.0 in
+      unwritten c.args.frames.now.statements c.args.at s c.args.tokens.now c.requires.provable.1 (sym c.is_compressed.ensures ∙ c.if-not-is_compressed.false) c.as_slice-count.result.now
+      (c.as_slice-count.ensures.value ∙ c.in_ok-fill_mandatory.ensures.mandatory s c.requires.provable.1) (rw c.in_default.is at c.in_ok-heading.ensures.read);
+}
 
-pub returns-then-not-branch-clause-answer : goal.returns-then-not-branch-clause-answer
-returns-then-not-branch-clause-answer c =
-    let s = c.requires.provable.0 in
-    one-listed c.args.frames.now.statements c.args.at s c.args.tokens.now c.requires.provable.1 (sym c.is_compressed.ensures ∙ c.if-not-is_compressed.false) _ _ _ _ (rw c.in-Some-2.is at c.in_ok-heading.ensures.read)
-    c.in_ok-add_listed.field-0 c.if-not-branch.true (c.in_ok-add_listed.ensures.apart s c.requires.provable.1)
+pub returns-then-not-branch : goal.returns-then-not-branch
+returns-then-not-branch c = record {
+  answer =
+      let s = c.requires.provable.0 in
+      one-listed c.args.frames.now.statements c.args.at s c.args.tokens.now c.requires.provable.1 (sym c.is_compressed.ensures ∙ c.if-not-is_compressed.false) _ _ _ _ (rw c.in-Some.is at c.in_ok-heading.ensures.read)
+      c.in_ok-add_listed.field-0 c.if-not-branch.true (c.in_ok-add_listed.ensures.apart s c.requires.provable.1);
+}
 
-pub returns-clause-answer : goal.returns-clause-answer
-returns-clause-answer c =
-    let s = c.requires.provable.0 in
-    let labels = mandatory_labels c.args.frames.now.statements c.args.at s ++ take c.in-Some-2.heading.count c.in-Some-2.heading.words in
-    read-proves c.args.frames.now.statements c.args.at s c.args.tokens.now c.requires.provable.1 (sym c.is_compressed.ensures ∙ c.if-not-is_compressed.false) _ _ _ _ (rw c.in-Some-2.is at c.in_ok-heading.ensures.read)
-    c.in_ok-add_listed.field-0 c.if-not-branch.false (c.in_ok-add_listed.ensures.apart s c.requires.provable.1)
-    (many c.args.frames.now.statements c.args.at s c.args.tokens.now c.requires.provable.1 (sym c.is_compressed.ensures ∙ c.if-not-is_compressed.false) c.as_slice-count.result.now (c.as_slice-count.ensures.value ∙ c.in_ok-fill_mandatory.ensures.mandatory s c.requires.provable.1))
-    c.check_by_table.result
-    (subst (λ ns. IfOk c.check_by_table.result (λ answer. IsAnswerTo answer (IsRight c.args.frames.now.statements c.args.at (items_of labels ns)))) c.numbers-numbers.ensures
-    (c.check_by_table.ensures.answer labels (subst (AreEntries c.args.frames.now.statements c.args.at labels) (sym c.deref-2.ensures.value)
-    (c.in_ok-add_listed.ensures.entries c.if-not-branch.false (mandatory_labels c.args.frames.now.statements c.args.at s) (c.in_ok-fill_mandatory.ensures.entries s c.requires.provable.1)))))
-
-pub prove_by_view-requires-clause-view : goal.prove_by_view-requires-clause-view
-prove_by_view-requires-clause-view c = λ s provable. rw c.in-Some.is at (c.in_ok-view.ensures s provable.stands)
+pub returns : goal.returns
+returns c = record {
+  answer =
+      let s = c.requires.provable.0 in
+      let labels = mandatory_labels c.args.frames.now.statements c.args.at s ++ take c.in-Some.heading.count c.in-Some.heading.words in
+      read-proves c.args.frames.now.statements c.args.at s c.args.tokens.now c.requires.provable.1 (sym c.is_compressed.ensures ∙ c.if-not-is_compressed.false) _ _ _ _ (rw c.in-Some.is at c.in_ok-heading.ensures.read)
+      c.in_ok-add_listed.field-0 c.if-not-branch.false (c.in_ok-add_listed.ensures.apart s c.requires.provable.1)
+      (many c.args.frames.now.statements c.args.at s c.args.tokens.now c.requires.provable.1 (sym c.is_compressed.ensures ∙ c.if-not-is_compressed.false) c.as_slice-count.result.now (c.as_slice-count.ensures.value ∙ c.in_ok-fill_mandatory.ensures.mandatory s c.requires.provable.1))
+      c.check_numbers.result
+      (subst (λ ns. IfOk c.check_numbers.result (λ answer. IsAnswerTo answer (IsRight c.args.frames.now.statements c.args.at (items_of labels ns)))) c.numbers-numbers.ensures
+      (c.check_numbers.ensures labels (subst (AreEntries c.args.frames.now.statements c.args.at labels) (sym c.deref-2.ensures.value)
+      (c.in_ok-add_listed.ensures.entries c.if-not-branch.false (mandatory_labels c.args.frames.now.statements c.args.at s) (c.in_ok-fill_mandatory.ensures.entries s c.requires.provable.1)))));
+}

@@ -6,7 +6,7 @@ pub symbols_at-requires : goal.symbols_at-requires
 symbols_at-requires c =
     let xs = c.self.inside.symbols in let stack = c.self.inside.stack.items in let p = c.index-place.result.now in
     subst (λ ys. (p.start ≤ p.end) × (p.end ≤ length ys)) (sym c.as_slice.ensures.symbols)
-    (saved-at (length xs) c.args.index stack p p c.self.invariant.kept.stack_within
+    (saved-at (length xs) c.args.index stack p p c.self.invariant.stack_within
     (let less = c.requires in let all = ap (λ v. length v.results.stack) c.self.view_is in let same = length-map stack (symbols_in xs) in omega (arith, less, all, same)) c.index-place.ensures)
 
 pub returns : goal.returns

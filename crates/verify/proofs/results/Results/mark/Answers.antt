@@ -3,9 +3,5 @@ use Rattle.verify.proofs.ResultPlaceLemmas.{kept-mark}
 use Rattle.verify.proofs.results.Results.mark.Goals as goal
 
 pub invariant_of-self-2 : goal.invariant_of-self-2
-invariant_of-self-2 c = record {
-  kept =
-      kept-mark c.self.inside.symbols c.self.inside.images c.self.inside.stack.items c.self.inside.saved.items _ c.self.inside.weight c.in-Some.field-0.now (length c.self.inside.stack.items - 1) c.self.invariant.kept
-      (ap (λ s. slice_get s (length s - 1)) (sym c.deref.ensures.value) ∙ sym c.in-Some.ensures.value) c.in_ok-push.ensures.items;
-  recorded = c.self.invariant.recorded;
-}
+invariant_of-self-2 c = kept-mark c.self.inside.symbols c.self.inside.images c.self.inside.stack.items c.self.inside.saved.items _ c.self.inside.weight c.in-Some.field-0.now (length c.self.inside.stack.items - 1) c.self.invariant
+    (ap (λ s. slice_get s (length s - 1)) (sym c.deref.ensures.value) ∙ sym c.in-Some.ensures.value) c.in_ok-push.ensures.items

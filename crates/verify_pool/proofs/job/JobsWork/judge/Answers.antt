@@ -1,20 +1,13 @@
 use Rattle.verify_pool.proofs.Words.{◌≡◌, ◌<◌, Some, length, slice_get, get_or, refl, subst, sym, IfOk, slice_get_read, IsAnswerTo, IsRightAt}
-use Rattle.verify.specs.CitationCache.{IsCacheFor}
 use Rattle.verify_pool.proofs.LeastLemmas.{job_judged}
 use Rattle.verify_pool.proofs.job.JobsWork.judge.Goals as goal
 
-pub returns-clause-answer : goal.returns-clause-answer
-returns-clause-answer c =
+pub returns : goal.returns
+returns c =
     let jobs = c.self.inside.jobs.now in
-    let within : c.args.index < length jobs = subst (λ work. c.args.index < length work.jobs) (sym c.self.view_is) c.requires.index in
+    let within : c.args.index < length jobs = subst (λ work. c.args.index < length work.jobs) (sym c.self.view_is) c.requires in
     let found = c.index-self-index in
     let stands : slice_get jobs c.args.index ≡ Some (get_or jobs c.args.index found.result) =
     subst (λ job. slice_get jobs c.args.index ≡ Some job) found.is (slice_get_read jobs (length jobs) c.args.index found.result refl within found.is) in
     subst (λ work. IfOk c.check_job.result (λ answer. IsAnswerTo answer (IsRightAt work.statements work.jobs c.args.index))) c.self.view_is
-    (job_judged c.self.inside.frames.now.statements jobs c.args.index (get_or jobs c.args.index found.result) c.check_job.result stands c.check_job.ensures.answer)
-
-pub check_job-requires-clause-kept : goal.check_job-requires-clause-kept
-check_job-requires-clause-kept c = subst (λ work. IsCacheFor work.statements work.names c.args.checker.now) (sym c.self.view_is) c.requires.kept
-
-pub returns-clause-kept : goal.returns-clause-kept
-returns-clause-kept c = subst (λ work. IsCacheFor work.statements work.names c.check_job.new.checker) c.self.view_is c.check_job.ensures.kept
+    (job_judged c.self.inside.frames.now.statements jobs c.args.index (get_or jobs c.args.index found.result) c.check_job.result stands c.check_job.ensures)
