@@ -115,39 +115,6 @@ others-below v σ x numbers list rest over below = below-from (length v.names) l
 pub record IsRead (lists rest : List (List ℕ)) (row : StampedSymbols) : Type 0 where
   pub each : (w : ℕ) → (has_symbol row w || list_any (λ list. has_number list w) rest) ≡ list_any (λ list. has_number list w) lists
 
-pub row-none : (lists : List (List ℕ)) (row : StampedSymbols) → ((w : ℕ) → has_symbol row w ≡ false) → IsRead lists lists row
-row-none lists row none = record { each = λ w. ap (λ b. b || list_any (λ list. has_number list w) lists) (none w) }
-
-or-moves : (a b c : Bool) → ((a || b) || c) ≡ (b || (a || c))
-or-moves true true c = refl
-or-moves true false c = refl
-or-moves false true c = refl
-or-moves false false c = refl
-
-pub row-more : (lists left rest : List (List ℕ)) (list : List ℕ) (old new : StampedSymbols) → left ≡ list ∷ rest → ((w : ℕ) → has_symbol new w ≡ (has_number list w || has_symbol old w)) → IsRead lists left old → IsRead lists rest new
-row-more lists left rest list old new is adds h = record {
-  each = λ w.
-      ap (λ b. b || list_any (λ l. has_number l w) rest) (adds w)
-      ∙ (or-moves (has_number list w) (has_symbol old w) (list_any (λ l. has_number l w) rest)
-      ∙ (ap (λ ls. has_symbol old w || list_any (λ l. has_number l w) ls) (sym is) ∙ h.each w));
-}
-
-or-false : (b : Bool) → b ≡ (b || false)
-or-false true = refl
-or-false false = refl
-
-pub row-all : (v : Numbered) (u : ℕ) (lists left : List (List ℕ)) (old new : StampedSymbols) → left ≡ [] → IsRead lists left old → ((w : ℕ) → has_symbol new w ≡ (not (w == u) && has_symbol old w))
-    → ((w : ℕ) → w < length v.names → is_numbered_pair v u w ≡ (not (u == w) && list_any (λ list. has_number list w) lists)) → IsRowOf v u new
-row-all v u lists left old new none h removes pairs = record {
-  each = λ w low.
-      removes w
-      ∙ (ap (λ b. not (w == u) && b) (or-false (has_symbol old w) ∙ (ap (λ ls. has_symbol old w || list_any (λ list. has_number list w) ls) (sym none) ∙ h.each w))
-      ∙ (ap (λ b. not b && list_any (λ list. has_number list w) lists) (eq-turned w u) ∙ sym (pairs w low)));
-}
-  where
-    eq-turned : (i j : ℕ) → (i == j) ≡ (j == i)
-    eq-turned i j = grind arith
-
 -- a row answers for numbers that have names
 pub row-tells : (v : Numbered) (u : ℕ) (row : StampedSymbols) (list : List ℕ) → IsRowOf v u row → AreBelow (length v.names) list → list_all (has_symbol row) list ≡ list_all (is_numbered_pair v u) list
 row-tells v u row [] is below = refl

@@ -94,9 +94,6 @@ module _ (D : Database) (image_of : ℕ → Expr) (group : List ℕ) where
   Decides n true = ArePairwise n
   Decides n false = are_numbers_disjoint D image_of group ≡ false
 
-  pub decides-one : Decides 1 true
-  decides-one = record { each = λ a b h l. (let i : a ≡ 0 = omega (arith, h) in let j : b ≡ 0 = omega (arith, l) in rw (i, j) (or_left _ _ (eq-own (get_or group 0 0)))) }
-
   pub decides-more : (n : ℕ) (all ok : Bool) → n < length group → Decides n all → ok ≡ is_number_disjoint D image_of (take n group) (get_or group n 0) → Decides (n + 1) (all && ok)
   decides-more n true true there h told = pairwise-next n there h (sym told)
   decides-more n true false there h told = number-clash n there (sym told)

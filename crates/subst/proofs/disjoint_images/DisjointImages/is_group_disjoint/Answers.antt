@@ -1,9 +1,6 @@
 use Rattle.subst.proofs.Words.{length, below-at, below-take, image_named, images_at}
-use Rattle.subst.proofs.GroupLemmas.{decides-all, decides-more, decides-one}
+use Rattle.subst.proofs.GroupLemmas.{decides-all, decides-more}
 use Rattle.subst.proofs.disjoint_images.DisjointImages.is_group_disjoint.Goals as goal
-
-pub loop-i-init : goal.loop-i-init
-loop-i-init c = record { lists = c.requires.lists; decides = decides-one c.args.pairs.now.statements (image_named c.args.pairs.now.names (images_at c.args.symbols.now c.args.images.now)) c.args.group.now }
 
 pub is_disjoint-requires-clause-number : goal.is_disjoint-requires-clause-number
 is_disjoint-requires-clause-number c = below-at (length c.args.pairs.now.names) c.args.group.now c.loop-i.i 0 c.requires.below c.loop-i-test.true

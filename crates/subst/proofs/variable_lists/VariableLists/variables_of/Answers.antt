@@ -44,9 +44,5 @@ returns-clause-lists c =
     (record { start = c.len-start.result; end = c.in-Ok.end }) c.requires.lists (extends-variables v image c.args.self.now.variables.items c.match-get-2.self.variables.items (read c).0)
     (λ y. c.in_ok-set.ensures.ok y ∙ ap (λ ps. cond (nat_eq y c.args.symbol) (Some (record { start = c.len-start.result; end = c.in-Ok.end })) (lookup (nat_eq y) ps)) (read c).1) (own c)
 
-pub returns-clause-kept : goal.returns-clause-kept
-returns-clause-kept c =
-    extends-variables c.args.pairs.now (code_image (images_at c.args.symbols.now c.args.images.now) c.args.symbol) c.args.self.now.variables.items c.match-get-2.self.variables.items (read c).0
-
 pub returns-clause-range : goal.returns-clause-range
 returns-clause-range c = own c
