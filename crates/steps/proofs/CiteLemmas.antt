@@ -1,5 +1,5 @@
 -- The step that a citation adds to a table, if a run cites the same.
-use Rattle.steps.proofs.Words.{◌≡◌, ℕ, zero, suc, ◌-◌, ◌<◌, ◌≤◌, List, [], ◌∷◌, ◌++◌, length, map, drop, get_or, slice_get, Some, refl, sym, ◌∙◌, ap, subst, arith, inl, inr, length-map, map-append, get_or_from_slice_get, Name, Stmt, Expr, Database, stmt_at, before, expr_of, is_assertion, decode, Float, AssertionView, AreBelow, AllBelow, IsWellTyped, IsViewOf, HasAssertion, hypotheses, Carries, IsHypothesis, IsInstance, premises, HasLegalProperties, Cite, below-drop, IsTyped, AreRead, AreDifferent, AreNamed, Results, State, Cites, RunsItem, with_result, below, top, required-lengths, required-different, Meets, meets-step, read-over, cited-plain, append_cut, length-premises, not_both, apply-below, halves, length-top, map-drop, Row, no_row, expr_in, Follows, from_hypothesis, from_assertion, AreRows, row_of, rows_of, codes_in, progress_of, IsDraft, AgreesWithRun, CitesHypothesis, CitesAssertion, TableDraft, some-same, below-take}
+use Rattle.steps.proofs.Words.{◌≡◌, ℕ, zero, suc, ◌-◌, ◌<◌, ◌≤◌, List, [], ◌∷◌, ◌++◌, length, map, drop, get_or, slice_get, Some, refl, sym, ◌∙◌, ap, subst, arith, inl, inr, length-map, map-append, get_or_from_slice_get, Name, Stmt, Expr, Database, stmt_at, before, expr_of, is_assertion, decode, Float, AssertionView, AreBelow, AllBelow, IsWellTyped, IsViewOf, HasAssertion, hypotheses, Carries, IsHypothesis, IsInstance, premises, HasLegalProperties, Cite, below-drop, IsTyped, AreRead, AreDifferent, AreNamed, Results, State, Cites, RunsItem, with_result, below, top, required-lengths, required-different, Meets, meets-step, read-over, append_cut, length-premises, not_both, apply-below, halves, length-top, map-drop, Row, no_row, expr_in, Follows, from_hypothesis, from_assertion, AreRows, row_of, rows_of, codes_in, progress_of, IsDraft, AgreesWithRun, CitesHypothesis, CitesAssertion, TableDraft, some-same, below-take}
 use Rattle.frame.specs.Substitution.{Images, CodeImages, apply as applied, code_apply}
 use Rattle.verify.specs.Machine.{of_hypothesis, of_assertion}
 use Rattle.steps.specs.StepTable.{Step, was_there, of_hypothesis as makes_hypothesis, of_assertion as makes_assertion, RecordsItem}
@@ -107,7 +107,7 @@ module _ (S : Database) (at : ℕ) (names : List Name) (legal : HasLegalProperti
 
     -- so the results on top of the stack are those that the assertion requires
     meets' : Meets S names at a c results.stack run.1
-    meets' = meets-step S names at a s c legal bound (cited-plain S names a s c cited) results label run.0 run.1 are_named carries has cites'
+    meets' = meets-step S names at a s c legal bound cited results label run.0 run.1 are_named carries has cites'
 
     -- the stack has a step for each mandatory hypothesis
     pub many : n ≤ length d.stack.items

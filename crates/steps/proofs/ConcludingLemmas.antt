@@ -1,5 +1,5 @@
 -- The images are read from results that begin with the typecodes of their hypotheses.
-use Rattle.steps.proofs.Words.{◌≡◌, ℕ, Bool, true, false, List, [], length, map, get_or, slice_get, IfSome, None, Option, Some, Bor, subst, sym, ◌∙◌, Name, Expr, AreDistinct, decode, ArePlacesOf, SymbolGroups, decode-injective, AreBelow, AreExprPlaces, SymbolRange, symbols_in, images_at, AreWithin, Hypothesis, Float, IsTyped, AreRead, Reads, ReadsAll, reads-seen}
+use Rattle.steps.proofs.Words.{◌≡◌, ℕ, Bool, true, false, List, [], length, map, get_or, slice_get, Some, subst, SymbolRange, symbols_in, images_at, AreWithin, Hypothesis, Float, IsTyped, AreRead, Reads, ReadsAll, reads-seen}
 
 module _ (xs ys typecodes : List ℕ) (hs : List Hypothesis) (places : List SymbolRange) (images : List (ℕ × SymbolRange)) (same : ys ≡ xs) (count : length places ≡ length hs) (within : AreWithin (length xs) places) where
   -- the images read by ranges are those read from the results in these ranges
@@ -14,9 +14,3 @@ module _ (xs ys typecodes : List ℕ) (hs : List Hypothesis) (places : List Symb
 
   pub all-read : (b : Bool) → ReadsAll b (length hs) ys typecodes hs places images → b ≡ true → AreRead typecodes hs (map (symbols_in xs) places) (images_at xs images)
   all-read b r e = subst (λ v. Reads v typecodes hs (map (symbols_in xs) places) (images_at xs images)) e (seen b r)
-
--- the places of the symbols of an expression are those of their numbers
-pub symbol_places-codes : (names : List Name) (e : List ℕ) (x : Expr) (symbol_places : Option (Bor SymbolGroups)) → AreDistinct names → AreBelow (length names) e → decode names e ≡ x
-    → IfSome symbol_places (λ places. AreExprPlaces names x places.now) → IfSome symbol_places (λ places. ArePlacesOf e places.now)
-symbol_places-codes names e x None distinct below same p = tt
-symbol_places-codes names e x (Some places) distinct below same p = subst (λ c. ArePlacesOf c places.now) (decode-injective names p.codes e distinct p.below below (p.named ∙ sym same)) p.places

@@ -12,4 +12,3 @@ pub mod PremiseLemmas
 pub mod EssentialMarkLemmas
 pub mod MarkedPlaceLemmas
 pub mod UnfoldLemmas
-pub mod LongListLemmas

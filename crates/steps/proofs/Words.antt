@@ -1,13 +1,11 @@
 -- The definitions and lemmas of other crates that the proofs of this crate use, re-exported from
 -- one place.
 pub use Rattle.entries.proofs.StatementRecordLemmas.{get-last}
-pub use Rattle.entries.specs.Hypotheses.{decoded_hypothesis}
-pub use Rattle.entries.specs.SymbolPlaces.{ArePlacesOf, SymbolGroups}
 pub use Rattle.entries.specs.declared.assertion_view.AssertionView.{AssertionView}
 pub use Rattle.entries.specs.declared.assertion_view.Hypothesis.{Hypothesis}
 pub use Rattle.entries.specs.declared.assertion_view.Hypothesis.TheVariants.{Essential, Float}
 pub use Rattle.frame.proofs.ActiveDisjointLemmas.{below-at}
-pub use Rattle.frame.proofs.FoundByNumber.{decode-injective, map-at, some-same}
+pub use Rattle.frame.proofs.FoundByNumber.{map-at, some-same}
 pub use Rattle.frame.proofs.PositionLemmas.{get-front}
 pub use Rattle.frame.proofs.SymbolNumberLemmas.{below-more, below-push, below-take}
 pub use Rattle.frame.specs.AssertionView.{AreNumberedHypotheses, IsStatementOf, IsViewOf}
@@ -15,15 +13,14 @@ pub use Rattle.frame.specs.AtPosition.{HasLegalProperties, ArePositions, HasLabe
 pub use Rattle.frame.specs.Below.{AllBelow, AreBelow}
 pub use Rattle.frame.specs.WellTyped.{IsWellTyped}
 pub use Rattle.frame.specs.Citations.{Carries, IsHypothesis, IsInstance, premises}
-pub use Rattle.frame.specs.ExprPlaces.{AreExprPlaces}
-pub use Rattle.frame.specs.FrameOf.{HasAssertion, hypotheses, mandatory_groups}
+pub use Rattle.frame.specs.FrameOf.{HasAssertion, hypotheses}
 pub use Rattle.frame.specs.Substitution.{code_apply}
 pub use Rattle.frame.specs.declared.meaning.Meaning.TheVariants.{Nothing}
 pub use Rattle.mm_lex.specs.Alphabet.{Name}
 pub use Rattle.mm_read.specs.Statements.{Database, Expr}
 pub use Rattle.mm_read.specs.declared.stmt.Stmt.{Stmt}
 pub use Rattle.names.proofs.OverflowLemmas.{apart, keeps}
-pub use Rattle.names.specs.Codes.{AreDistinct, decode}
+pub use Rattle.names.specs.Codes.{decode}
 pub use Rattle.proof_code.proofs.RowOfNumbers.{item-cite, item-recall}
 pub use Rattle.proof_code.specs.ItemNumbers.{item_of, items_of}
 pub use Rattle.proof_code.specs.declared.item.Item.{Item}
@@ -37,12 +34,11 @@ pub use Rattle.std.proofs.lemmas.Option.{get_or_from_slice_get, slice_get-get_or
 pub use Rattle.std.proofs.lemmas.Result.{IfOk-weaker, on_ok_weaker}
 pub use Rattle.std.proofs.lemmas.Slice.Eq.{bytes_eq-Decides}
 pub use Rattle.std.specs.BTreeMap.{BTreeMap, UpdatesBy}
-pub use Rattle.std.specs.Borrow.{Bor}
 pub use Rattle.std.specs.Cmp.{eq_by_cmp_equiv}
 pub use Rattle.std.specs.Cmp.Lexicographic.{nat_list_cmp_total, slice_cmp}
 pub use Rattle.std.specs.List.Sorted.{IsStrictlyIncreasing}
 pub use Rattle.std.specs.Ordering.{is_eq, nat_cmp}
-pub use Rattle.std.specs.Prelude.{Bool, IfSome, List, None, Option, Some, [], false, get_or, if◌then◌else◌, length, map, refl, replicate, slice_get, slice_set, suc, true, zero, ℕ, ◌++◌, ◌+◌, ◌-◌, ◌<◌, ◌∷◌, ◌≢◌, ◌≤◌, ◌⊎◌}
+pub use Rattle.std.specs.Prelude.{Bool, List, None, Option, Some, [], false, get_or, if◌then◌else◌, length, map, refl, replicate, slice_get, slice_set, suc, true, zero, ℕ, ◌++◌, ◌+◌, ◌-◌, ◌<◌, ◌∷◌, ◌≢◌, ◌≤◌, ◌⊎◌}
 pub use Rattle.std.specs.Str.{bytes_eq}
 pub use Rattle.std.specs.declared.alloc.Global.{Global}
 pub use Rattle.std.specs.declared.vec.Vec.{Vec}
@@ -50,7 +46,6 @@ pub use Rattle.steps.specs.Essential.{AreEssential, IsEssential, IsIn, IsRenumbe
 pub use Rattle.steps.specs.Rows.{AreRows, Follows, IsRow, Row, expr_in, from_assertion, from_hypothesis, no_row, row, steps_of}
 pub use Rattle.steps.specs.StepTable.{AreSteps, IsPlaced, IsStepOf, Progress, RecordsItem, RecordsItems, Step, is_appended, of_assertion, of_hypothesis, progress, was_there}
 pub use Rattle.steps.specs.Stored.Drafted.{AreInBuffer, AreStepPlaces, CanRun, FindsStep, CitesAssertion, CitesHypothesis, IsItemRecorded, IsDraft, AgreesWithRun, codes_in, key_of, range_in, place_of, progress_of, row_of, rows_of}
-pub use Rattle.steps.specs.Stored.LongLists.{AreListsOfAssertions, IsListOf, IsCopyOf, IsViewUpToGroups, IsListAt, ListedHypotheses, with_groups}
 pub use Rattle.steps.specs.Stored.Marked.{AreMarkedFrom, AreMarks, AreNumbers, HasMark, MarksMore, kept_row, mark_each, mark_last, marked_before, number_of, taken_for_essentials}
 pub use Rattle.steps.specs.Unfolded.{citation_over, has_assertion, last_unfolded, unfolded, unfolded_after}
 pub use Rattle.steps.specs.declared.table_draft.StoredStep.{StoredStep}
@@ -67,7 +62,6 @@ pub use Rattle.verify.proofs.Complete.{conclude_same}
 pub use Rattle.verify.proofs.Decide.{append_cut, length-premises, not_both}
 pub use Rattle.verify.proofs.GrowthLemmas.{leaves}
 pub use Rattle.verify.proofs.ImageLemmas.{apply-below}
-pub use Rattle.verify.proofs.KeptListsLemmas.{cited-plain}
 pub use Rattle.verify.proofs.LabelTableLemmas.{has_with, suc_back}
 pub use Rattle.verify.proofs.LawsHold.{spellings_run}
 pub use Rattle.verify.proofs.MarkLemmas.{no-mark, set_true}
@@ -77,7 +71,6 @@ pub use Rattle.verify.proofs.ReadImageLemmas.{reads-seen}
 pub use Rattle.verify.proofs.RequiredHypotheses.{required-different, required-lengths}
 pub use Rattle.verify.proofs.ResultPlaceLemmas.{get-map, map-drop}
 pub use Rattle.verify.proofs.StepLemmas.{all-taken, items-more}
-pub use Rattle.verify.proofs.Words.{same_Some}
 pub use Rattle.verify.specs.Derivations.{Derivation, apply, from_list, hyp}
 pub use Rattle.verify.specs.HypothesisResults.{AreDifferent, AreRead, IsTyped, Reads}
 pub use Rattle.verify.specs.Growth.{Grows, GrowsBy, Trees, a_hypothesis, an_assertion, trees}

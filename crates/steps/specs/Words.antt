@@ -2,10 +2,9 @@
 pub use Rattle.entries.specs.declared.assertion_view.AssertionView.{AssertionView}
 pub use Rattle.entries.specs.declared.assertion_view.Hypothesis.{Hypothesis}
 pub use Rattle.entries.specs.declared.assertion_view.Hypothesis.TheVariants.{Essential, Float}
-pub use Rattle.frame.specs.AssertionView.{AreNumberedHypotheses, IsViewOf}
-pub use Rattle.frame.specs.Below.{AllBelow, AreBelow}
+pub use Rattle.frame.specs.Below.{AreBelow}
 pub use Rattle.frame.specs.Citations.{Carries, IsHypothesis, IsInstance, premises}
-pub use Rattle.frame.specs.FrameOf.{hypotheses, mandatory_groups}
+pub use Rattle.frame.specs.FrameOf.{hypotheses}
 pub use Rattle.frame.specs.Substitution.{CodeImages, code_apply}
 pub use Rattle.mm_lex.specs.Alphabet.{Name}
 pub use Rattle.mm_read.specs.Statements.{Database, Expr}

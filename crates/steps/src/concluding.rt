@@ -1,57 +1,26 @@
 //! Computes the conclusion of a cited assertion from the results that it takes.
-ghost use Rattle.std.specs.Prelude.{◌≡◌, ℕ, ◌++◌, [], List, Some, OnOk, IfOk, IfSome, length, map, get_or, slice_get};
+ghost use Rattle.std.specs.Prelude.{◌≡◌, ℕ, ◌++◌, [], Some, OnOk, IfOk, length, map, get_or, slice_get};
 ghost use Rattle.entries.specs.declared.assertion_view.Hypothesis.TheVariants.{Float};
-ghost use Rattle.entries.specs.SymbolPlaces.{ArePlacesOf};
 ghost use Rattle.frame.specs.Substitution.{CodeImages, code_apply};
 ghost use Rattle.subst.specs.SymbolRanges.{symbols_in, AreWithin};
-ghost use Rattle.subst.specs.RemainingSymbols.{HaveSameResult};
 ghost use Rattle.verify.specs.HypothesisResults.{AreDifferent, IsTyped, AreRead};
 
-use entries::{AssertionView, SymbolPlaces};
+use entries::AssertionView;
 use std::alloc::AllocError;
-use subst::{Buffer, ImageRanges, RemainingSymbols, SYMBOLS_LIMIT, SymbolRange, range_between};
+use subst::{Buffer, ImageRanges, SYMBOLS_LIMIT, SymbolRange, range_between};
 use verify::read_off;
 
-/// Returns the symbols of the expression whose images are not empty, in order, if `symbol_places`
-/// is given and these symbols are at most a quarter of the expression. Otherwise returns the
-/// expression. Substitution gives the same result for both.
-///
-/// Errors: an allocation fails. Cost: the distinct symbols of the expression, and the symbols that
-/// are returned.
-fn shortened<'a>(
-    images: &ImageRanges,
-    expr: &'a [u32],
-    symbol_places: Option<&SymbolPlaces>,
-    remaining: &'a mut RemainingSymbols,
-) -> Result<&'a [u32], AllocError>
-    requires { IfSome symbol_places (λ places. ArePlacesOf expr.now places.now) }
-    ensures { IfOk result (λ short. HaveSameResult images.now short.now expr.now) }
-{
-    let Some(places) = symbol_places else {
-        return Ok(expr);
-    };
-    match remaining.find_nonempty(images, expr, places)? {
-        Some(left) => Ok(left),
-        None => Ok(expr),
-    }
-}
-
 /// Appends the conclusion of the assertion to the buffer, and returns its range. `ranges` are those
-/// of the results that the citation takes. `symbol_places` says where each symbol occurs in the
-/// assertion's expression; it has no places of steps.
+/// of the results that the citation takes.
 ///
 /// Errors: an allocation fails, or the expressions exceed `SYMBOLS_LIMIT` symbols. Cost: a constant
-/// for each result, the symbols written, and the symbols of the expression, or only its distinct
-/// ones if `symbol_places` is given and few symbols have images that are not empty.
+/// for each result, the symbols of the assertion's expression, and those written.
 pub fn conclude(
     symbols: &mut Buffer,
     images: &mut ImageRanges,
-    remaining: &mut RemainingSymbols,
     cited: &AssertionView<'_>,
-    symbol_places: Option<&SymbolPlaces>,
     ranges: &[SymbolRange],
 ) -> Result<SymbolRange, AllocError>
-    requires symbol_places { IfSome symbol_places (λ places. ArePlacesOf cited.now.conclusion.now places.now) }
     requires count { length ranges.now ≡ length cited.now.hypotheses }
     requires typecodes { length cited.now.typecodes.now ≡ length cited.now.hypotheses }
     requires within { AreWithin (length symbols.old) ranges.now }
@@ -73,8 +42,7 @@ pub fn conclude(
     else {
         unreachable!();
     };
-    let conclusion = shortened(images, cited.conclusion, symbol_places, remaining)?;
-    if !symbols.add_applied(images, conclusion, SYMBOLS_LIMIT - start)? {
+    if !symbols.add_applied(images, cited.conclusion, SYMBOLS_LIMIT - start)? {
         return Err(AllocError);
     }
     Ok(range_between(start, symbols.len()))

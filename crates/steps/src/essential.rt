@@ -4,14 +4,13 @@ ghost use Rattle.std.specs.Prelude.{◌≡◌, suc, ◌<◌, ◌≤◌, [], IfOk
 ghost use Rattle.frame.specs.Below.{AreBelow};
 ghost use Rattle.steps.specs.Rows.{no_row, steps_of, AreRows};
 ghost use Rattle.steps.specs.Essential.{premise_places, AreEssential};
-ghost use Rattle.steps.specs.Stored.LongLists.{AreListsOfAssertions};
 ghost use Rattle.steps.specs.Stored.Marked.{taken_for_essentials, mark_each, mark_last, AreMarkedFrom, AreMarks};
 
-use crate::long_lists::LongLists;
 use crate::steps_table::ProofTable;
 use entries::{Hypotheses, Hypothesis};
-use frame::{Frames, Meaning};
+use frame::{FrameBuffers, Frames, Meaning};
 use std::alloc::{AllocError, Global};
+use verify::cited_view;
 
 /// Returns those of the taken places that are taken for a `$e`.
 ///
@@ -41,21 +40,17 @@ fn premises_of(
     at: usize,
     table: &ProofTable,
     place: usize,
-    lists: &mut LongLists,
+    buffers: &mut FrameBuffers,
 ) -> Result<Vec<usize>, AllocError>
     requires at { (1 ≤ at) × (at ≤ length frames.now.statements) }
     requires rows { AreRows frames.now.statements at frames.now.names table.now }
     requires place { place < length table.now }
-    requires lists { AreListsOfAssertions frames.now.statements frames.now.names lists.old.lists.items }
-    ensures premises { IfOk result (λ list. list.items ≡ premise_places frames.now.statements (get_or table.now place no_row).step) }
-    ensures lists { OnOk result (AreListsOfAssertions frames.now.statements frames.now.names lists.new.lists.items) }
+    ensures { IfOk result (λ list. list.items ≡ premise_places frames.now.statements (get_or table.now place no_row).step) }
 {
     let position = table.position(place);
     match frames.meaning(at, position) {
         Meaning::Assertion => {
-            let whole_view = frames.whole_view(position);
-            let index = lists.index_of(frames, position, whole_view.is_some())?;
-            let cited = lists.view_at(frames, position, whole_view, index);
+            let cited = cited_view(frames, position, buffers)?;
             premises_among(alloc, &cited.hypotheses, table.taken(place))
         }
         Meaning::Hypothesis(_) => Ok(Vec::new(alloc)),
@@ -80,19 +75,17 @@ fn mark_premises(
     at: usize,
     table: &ProofTable,
     place: usize,
-    lists: &mut LongLists,
+    buffers: &mut FrameBuffers,
     marks: &mut [bool],
 ) -> Result<(), AllocError>
     requires at { (1 ≤ at) × (at ≤ length frames.now.statements) }
     requires rows { AreRows frames.now.statements at frames.now.names table.now }
     requires place { place < length table.now }
     requires marks { AreMarkedFrom frames.now.statements (steps_of table.now) (suc place) marks.old }
-    requires lists { AreListsOfAssertions frames.now.statements frames.now.names lists.old.lists.items }
-    ensures marks { OnOk result (AreMarkedFrom frames.now.statements (steps_of table.now) place marks.new) }
-    ensures lists { OnOk result (AreListsOfAssertions frames.now.statements frames.now.names lists.new.lists.items) }
+    ensures { OnOk result (AreMarkedFrom frames.now.statements (steps_of table.now) place marks.new) }
 {
     if marks[place] {
-        let premises = premises_of(alloc, frames, at, table, place, lists)?;
+        let premises = premises_of(alloc, frames, at, table, place, buffers)?;
         mark_all(&premises, marks);
     }
     Ok(())
@@ -122,10 +115,10 @@ fn marks_of(
     ensures { IfOk result (λ marks. AreMarks frames.now.statements (steps_of table.now) marks.items) }
 {
     let count = table.len();
-    let mut lists = LongLists::new(alloc);
+    let mut buffers = FrameBuffers::new(alloc);
     let mut marks = last_marked(alloc, count)?;
     for place in (0..count).rev() {
-        mark_premises(alloc, frames, at, table, place, &mut lists, &mut marks)?;
+        mark_premises(alloc, frames, at, table, place, &mut buffers, &mut marks)?;
     }
     Ok(marks)
 }
@@ -155,7 +148,7 @@ fn renumbered(alloc: Global, list: &[usize], numbers: &[usize]) -> Result<Vec<us
 /// took for a `$e`.
 ///
 /// Errors: an allocation fails. Cost: the size of the table. If `Frames::whole_view` returns `None`
-/// for a cited assertion, its mandatory hypotheses are listed twice.
+/// for a cited assertion, its parts are made twice for each step that cites it.
 /// Source: Metamath, 4.2.6.
 pub fn essential_table(
     alloc: Global,
@@ -191,12 +184,12 @@ fn keep_marked(
     requires empty { kept.old ≡ [] }
     ensures { OnOk result (AreEssential frames.now.statements table.now kept.new) }
 {
-    let mut lists = LongLists::new(alloc);
+    let mut buffers = FrameBuffers::new(alloc);
     let mut numbers = Vec::new(alloc);
     for place in 0..table.len() {
         numbers.push(kept.len())?;
         if marks[place] {
-            let premises = premises_of(alloc, frames, at, table, place, &mut lists)?;
+            let premises = premises_of(alloc, frames, at, table, place, &mut buffers)?;
             let taken = renumbered(alloc, &premises, &numbers)?;
             kept.push(table.position(place), taken, table.expr(place))?;
         }

@@ -8,14 +8,13 @@
 //! index of a step in the table, from 0.
 //!
 //! Reading order: `steps_table` (the table, and `proof_table`), `recording` (one item),
-//! `table_draft` (one citation), `concluding` (one conclusion), `long_lists` (long lists of
-//! hypotheses), `step_places` (finds equal steps), `essential` (the essential steps), `laws`.
+//! `table_draft` (one citation), `concluding` (one conclusion), `step_places` (finds equal steps),
+//! `essential` (the essential steps), `laws`.
 #![tactic(auto)]
 
 mod concluding;
 mod essential;
 pub mod laws;
-mod long_lists;
 mod recording;
 mod step_places;
 mod steps_table;

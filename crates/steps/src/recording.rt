@@ -7,12 +7,11 @@ ghost use Rattle.frame.specs.AtPosition.{ArePositions, HasLegalProperties};
 ghost use Rattle.proof_code.specs.declared.item.Item.TheVariants.{Cite, Recall, Mark};
 ghost use Rattle.proof_code.specs.ItemNumbers.{item_of};
 ghost use Rattle.steps.specs.Stored.Drafted.{IsDraft, CanRun, IsItemRecorded};
-ghost use Rattle.steps.specs.Stored.LongLists.{AreListsOfAssertions};
 
-use crate::long_lists::LongLists;
 use crate::table_draft::{TableDraft, cite_assertion, cite_hypothesis};
-use frame::{Frames, Meaning};
+use frame::{FrameBuffers, Frames, Meaning};
 use std::alloc::{AllocError, Global};
+use verify::cited_view;
 
 /// Marks the last result: saves its place.
 ///
@@ -54,7 +53,7 @@ fn cite(
     frames: &Frames,
     at: usize,
     position: usize,
-    lists: &mut LongLists,
+    buffers: &mut FrameBuffers,
     draft: &mut TableDraft,
 ) -> Result<(), AllocError>
     requires legal { HasLegalProperties frames.now.statements frames.now.names }
@@ -62,19 +61,15 @@ fn cite(
     requires draft { IsDraft frames.now.statements at frames.now.names draft.old }
     requires can { (label : Name) × (s : Statement) × Carries frames.now.statements position s label
         × CanRun frames.now.statements at frames.now.names draft.old (Cite label) }
-    requires lists { AreListsOfAssertions frames.now.statements frames.now.names lists.old.lists.items }
     ensures draft { OnOk result (IsDraft frames.now.statements at frames.now.names draft.new) }
     ensures done { OnOk result ((label : Name) (s : Statement) → Carries frames.now.statements position s label
         → IsItemRecorded frames.now.statements at frames.now.names draft.old (Cite label) draft.new) }
-    ensures lists { OnOk result (AreListsOfAssertions frames.now.statements frames.now.names lists.new.lists.items) }
 {
     match frames.meaning(at, position) {
         Meaning::Hypothesis(expr) => cite_hypothesis(alloc, draft, position, expr),
         Meaning::Assertion => {
-            let whole_view = frames.whole_view(position);
-            let index = lists.index_of(frames, position, whole_view.is_some())?;
-            let cited = lists.view_at(frames, position, whole_view, index);
-            cite_assertion(alloc, draft, position, &cited, frames.places(position))
+            let cited = cited_view(frames, position, buffers)?;
+            cite_assertion(alloc, draft, position, &cited)
         }
         Meaning::Nothing => unreachable!(),
     }
@@ -91,7 +86,7 @@ pub fn record_item(
     at: usize,
     positions: &[Option<usize>],
     number: u32,
-    lists: &mut LongLists,
+    buffers: &mut FrameBuffers,
     draft: &mut TableDraft,
 ) -> Result<(), AllocError>
     requires legal { HasLegalProperties frames.now.statements frames.now.names }
@@ -99,11 +94,9 @@ pub fn record_item(
     requires draft { IsDraft frames.now.statements at frames.now.names draft.old }
     requires can { (labels : List Name) × ArePositions frames.now.statements labels positions.now
         × CanRun frames.now.statements at frames.now.names draft.old (item_of labels number) }
-    requires lists { AreListsOfAssertions frames.now.statements frames.now.names lists.old.lists.items }
     ensures draft { OnOk result (IsDraft frames.now.statements at frames.now.names draft.new) }
     ensures done { OnOk result ((labels : List Name) → ArePositions frames.now.statements labels positions.now
         → IsItemRecorded frames.now.statements at frames.now.names draft.old (item_of labels number) draft.new) }
-    ensures lists { OnOk result (AreListsOfAssertions frames.now.statements frames.now.names lists.new.lists.items) }
 {
     if number == 0 {
         return mark(frames, at, draft);
@@ -113,7 +106,7 @@ pub fn record_item(
         return recall(frames, at, index - positions.len(), draft);
     }
     match positions[index] {
-        Some(position) => cite(alloc, frames, at, position, lists, draft),
+        Some(position) => cite(alloc, frames, at, position, buffers, draft),
         None => unreachable!(),
     }
 }

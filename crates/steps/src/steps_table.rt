@@ -7,10 +7,9 @@ ghost use Rattle.steps.specs.StepTable.{AreSteps};
 ghost use Rattle.steps.specs.Rows.{no_row, row, steps_of, expr_in, AreRows};
 ghost use Rattle.steps.specs.Unfolded.{last_unfolded};
 
-use crate::long_lists::LongLists;
 use crate::recording::record_item;
 use crate::table_draft::{StoredStep, TableDraft};
-use frame::Frames;
+use frame::{FrameBuffers, Frames};
 use proof_code::Items;
 use std::alloc::{AllocError, Global};
 use std::marker::Model;
@@ -113,7 +112,7 @@ impl ProofTable {
 ///
 /// Errors: an allocation fails. Cost: that of the proof, and of finding each citation among the
 /// steps. There is no limit on the number of steps. If `Frames::whole_view` returns `None` for a
-/// cited assertion, its mandatory hypotheses are listed once.
+/// cited assertion, its parts are made at each citation.
 /// Source: Metamath, 4.2.6 and appendix B.
 pub fn proof_table(
     alloc: Global,
@@ -130,11 +129,17 @@ pub fn proof_table(
 {
     let parts = items.parts();
     let positions = frames.positions(parts.labels)?;
-    let mut lists = LongLists::new(alloc);
+    let mut buffers = FrameBuffers::new(alloc);
     let mut draft = TableDraft::new(alloc);
     for number in parts.numbers {
         record_item(
-            alloc, frames, at, &positions, *number, &mut lists, &mut draft,
+            alloc,
+            frames,
+            at,
+            &positions,
+            *number,
+            &mut buffers,
+            &mut draft,
         )?;
     }
     Ok(ProofTable {

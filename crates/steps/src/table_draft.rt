@@ -1,8 +1,7 @@
 //! Builds a table from the citations of a proof.
-ghost use Rattle.std.specs.Prelude.{◌≡◌, ℕ, ◌<◌, ◌≤◌, ◌∷◌, [], List, Some, OnOk, IfSome, length, map, get_or, slice_get};
+ghost use Rattle.std.specs.Prelude.{◌≡◌, ℕ, ◌<◌, ◌≤◌, ◌∷◌, [], List, Some, OnOk, length, map, get_or, slice_get};
 ghost use Rattle.mm_lex.specs.Alphabet.{Name};
 ghost use Rattle.mm_read.specs.declared.stmt.Stmt.{Stmt as Statement};
-ghost use Rattle.entries.specs.SymbolPlaces.{ArePlacesOf};
 ghost use Rattle.entries.specs.declared.assertion_view.Hypothesis.TheVariants.{Float};
 ghost use Rattle.frame.specs.Below.{AreBelow};
 ghost use Rattle.verify.specs.HypothesisResults.{AreDifferent, IsTyped};
@@ -11,10 +10,10 @@ ghost use Rattle.steps.specs.Stored.Drafted.{IsDraft, IsWellFormed, AddsStep, Ci
 
 use crate::concluding::conclude;
 use crate::step_places::{find_place, record_place, step_key};
-use entries::{AssertionView, SymbolPlaces};
+use entries::AssertionView;
 use std::alloc::{AllocError, Global};
 use std::collections::BTreeMap;
-use subst::{Buffer, ImageRanges, RemainingSymbols, SYMBOLS_LIMIT, SymbolRange, range_between};
+use subst::{Buffer, ImageRanges, SYMBOLS_LIMIT, SymbolRange, range_between};
 
 /// A step, with the range of its expression in a buffer.
 #[derive(Drop)]
@@ -42,8 +41,6 @@ pub struct TableDraft {
     pub step_places: BTreeMap<Vec<usize>, usize>,
     /// A buffer for the images of a citation.
     pub images: ImageRanges,
-    /// A buffer for a long expression without the symbols whose images are empty.
-    pub remaining: RemainingSymbols,
     /// A buffer for the ranges of the results that a citation takes.
     pub ranges: Vec<SymbolRange>,
 }
@@ -61,7 +58,6 @@ impl TableDraft {
             saved: Vec::new(alloc),
             step_places: BTreeMap::new(alloc),
             images: ImageRanges::new(alloc),
-            remaining: RemainingSymbols::new(alloc),
             ranges: Vec::new(alloc),
         }
     }
@@ -139,8 +135,7 @@ fn fill_ranges(
 }
 
 /// Cites an assertion: pops the results for its hypotheses and pushes its own, and makes its step
-/// if there is none yet. `symbol_places` has the places of the symbols in the assertion's
-/// expression, if they are known.
+/// if there is none yet.
 ///
 /// Errors: an allocation fails, or the expressions exceed `SYMBOLS_LIMIT` symbols. Cost: a look-up
 /// among the steps; for a new one that of `conclude`.
@@ -149,9 +144,7 @@ pub fn cite_assertion(
     draft: &mut TableDraft,
     position: usize,
     cited: &AssertionView<'_>,
-    symbol_places: Option<&SymbolPlaces>,
 ) -> Result<(), AllocError>
-    requires symbol_places { IfSome symbol_places (λ places. ArePlacesOf cited.now.conclusion.now places.now) }
     requires held { IsWellFormed draft.old }
     requires many { length cited.now.hypotheses ≤ length draft.old.stack.items }
     requires typecodes { length cited.now.typecodes.now ≡ length cited.now.hypotheses }
@@ -168,14 +161,7 @@ pub fn cite_assertion(
         return Ok(());
     }
     fill_ranges(&draft.stored, &taken, &mut draft.ranges)?;
-    let range = conclude(
-        &mut draft.symbols,
-        &mut draft.images,
-        &mut draft.remaining,
-        cited,
-        symbol_places,
-        &draft.ranges,
-    )?;
+    let range = conclude(&mut draft.symbols, &mut draft.images, cited, &draft.ranges)?;
     add_step(
         draft,
         key,

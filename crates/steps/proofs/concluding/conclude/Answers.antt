@@ -1,4 +1,4 @@
-use Rattle.steps.proofs.Words.{◌-◌, ◌++◌, ◌∙◌, ap, is_some, subst, code_apply, images_at, SYMBOLS_LIMIT, Appends}
+use Rattle.steps.proofs.Words.{◌-◌, ap, is_some, subst, code_apply, images_at, SYMBOLS_LIMIT, Appends}
 use Rattle.steps.proofs.ConcludingLemmas.{never-other, all-read}
 use Rattle.steps.proofs.concluding.conclude.Goals as goal
 
@@ -13,6 +13,5 @@ returns-clause-added c =
       σ,
       all-read c.args.symbols.now c.as_slice.result.now c.args.cited.now.typecodes.now c.args.cited.now.hypotheses c.args.ranges.now c.read_off.new.images c.as_slice.ensures.symbols c.requires.count c.requires.within
           (is_some c.in_ok-read_off.field-0) c.in_ok-read_off.ensures.ok (ap is_some c.in-Some.is),
-      (subst (λ v. Appends v (SYMBOLS_LIMIT - c.len-start.result) c.args.symbols.now c.add_applied.new.self (code_apply σ c.in_ok-conclusion.conclusion.now)) c.if-not-branch.false c.in_ok-add_applied.ensures.ok).0
-          ∙ ap (λ e. c.args.symbols.now ++ e) (c.in_ok-conclusion.ensures c.args.symbols.now),
+      (subst (λ v. Appends v (SYMBOLS_LIMIT - c.len-start.result) c.args.symbols.now c.add_applied.new.self (code_apply σ c.args.cited.now.conclusion.now)) c.if-not-branch.false c.in_ok-add_applied.ensures.ok).0,
     )

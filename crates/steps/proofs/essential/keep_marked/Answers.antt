@@ -19,7 +19,7 @@ renumbered-requires c =
     let count = c.loop-place.invariant.0.count in
     let longer = ap length (c.deref-then-marks-place.ensures.value ∙ c.in_ok-push.ensures.items) in
     let more = length-append c.loop-place.numbers.items (c.len.result ∷ []) in
-    subst (AreBelow (length c.deref-then-marks-place.result.now)) (sym (c.deref.ensures.value ∙ c.in_ok-premises.ensures.premises)) (below-more place (length c.deref-then-marks-place.result.now) _ (omega (arith, count, longer, more)) low)
+    subst (AreBelow (length c.deref-then-marks-place.result.now)) (sym (c.deref.ensures.value ∙ c.in_ok-premises.ensures)) (below-more place (length c.deref-then-marks-place.result.now) _ (omega (arith, count, longer, more)) low)
 
 pub loop-place-preserved : goal.loop-place-preserved
 loop-place-preserved c =
@@ -37,7 +37,7 @@ loop-place-preserved c =
       elim c.if-marks-place.branch [
         | then-marks-place+in_ok-premises+in_ok-taken+in_ok-push-2 w ↦
             let ks = premise_places S (get_or rows place no_row).step in
-            let premises : w.deref.result.now ≡ ks = w.deref.ensures.value ∙ w.in_ok-premises.ensures.premises in
+            let premises : w.deref.result.now ≡ ks = w.deref.ensures.value ∙ w.in_ok-premises.ensures in
             let taken : w.in_ok-taken.taken.items ≡ map (number_of marks) ks =
             w.in_ok-taken.ensures
             ∙ (ap (λ v. map (λ k. get_or v k 0) w.deref.result.now) w.deref-then-marks-place.ensures.value
@@ -45,10 +45,6 @@ loop-place-preserved c =
             ∙ numbers-are marks (place + 1) c.push.new.self.items ks numbers (λ i x e. (let b = below-get place ks i x low e in omega (arith, b))))) in
             kept-more marks f place c.loop-place.kept c.if-marks-place.kept w.if-marks-place.true is (w.kept-is ∙ (w.in_ok-push-2.ensures ∙ ap (λ r. c.loop-place.kept ++ r ∷ []) (row-same _ _ _ _ _ _ w.position.ensures taken w.expr.ensures)))
         | else-marks-place w ↦ subst (λ r. r ≡ map f (marked_before marks (place + 1))) (sym w.kept-is) (kept-same marks f place c.loop-place.kept w.if-marks-place.false is)
-      ],
-      elim c.if-marks-place.branch [
-        | then-marks-place+in_ok-premises+in_ok-taken+in_ok-push-2 w ↦ rw w.lists-is w.in_ok-premises.ensures.lists
-        | else-marks-place w ↦ rw w.lists-is c.loop-place.invariant.2
       ],
     )
 

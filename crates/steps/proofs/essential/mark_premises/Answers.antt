@@ -17,10 +17,10 @@ mark_all-requires c =
     let m = c.requires.marks.count in
     let n = length-map c.args.table.now (λ r. r.step) in
     let low = premises-below c.args.frames.now.statements c.args.at c.args.frames.now.names c.args.table.now c.args.place c.requires.rows c.requires.place in
-    subst (AreBelow (length c.args.marks.now)) (sym (c.deref.ensures.value ∙ c.in_ok-premises.ensures.premises)) (below-more c.args.place (length c.args.marks.now) _ (omega (arith, l, m, n)) low)
+    subst (AreBelow (length c.args.marks.now)) (sym (c.deref.ensures.value ∙ c.in_ok-premises.ensures)) (below-more c.args.place (length c.args.marks.now) _ (omega (arith, l, m, n)) low)
 
-pub returns-in_ok-premises-clause-marks : goal.returns-in_ok-premises-clause-marks
-returns-in_ok-premises-clause-marks c =
+pub returns-in_ok-premises : goal.returns-in_ok-premises
+returns-in_ok-premises c =
     let S = c.args.frames.now.statements in
     let rows = c.args.table.now in
     let old = c.args.marks.now in
@@ -29,7 +29,7 @@ returns-in_ok-premises-clause-marks c =
     let m = c.requires.marks.count in
     let n = length-map rows (λ r. r.step) in
     let low = premises-below S c.args.at c.args.frames.now.names rows c.args.place c.requires.rows c.requires.place in
-    let premises : c.deref.result.now ≡ premise_places S step = c.deref.ensures.value ∙ c.in_ok-premises.ensures.premises in
+    let premises : c.deref.result.now ≡ premise_places S step = c.deref.ensures.value ∙ c.in_ok-premises.ensures in
     let new : c.mark_all.new.marks ≡ mark_each (premise_places S step) old = c.mark_all.ensures ∙ ap (λ ks. mark_each ks old) premises in
     marked-on S (steps_of rows) c.args.place step old c.mark_all.new.marks c.requires.marks c.if-marks-place.true (step-at rows c.args.place (get_or rows c.args.place no_row) (slice_get-get_or rows c.args.place no_row c.requires.place)) low
     (subst (λ v. MarksMore old v (premise_places S step)) (sym new) (each-more (premise_places S step) old (below-more c.args.place (length old) (premise_places S step) (omega (arith, l, m, n)) low)))

@@ -1,6 +1,6 @@
-use Rattle.steps.proofs.Words.{steps_of, AreListsOfAssertions, AreMarkedFrom}
+use Rattle.steps.proofs.Words.{steps_of, AreMarkedFrom}
 use Rattle.steps.proofs.essential.marks_of.Given as goal
 
 -- the steps from this place on were visited
 abbrev pub invariant-loop-place : goal.invariant-loop-place
-invariant-loop-place l = AreMarkedFrom l.frames.statements (steps_of l.table) l.place l.marks.items × AreListsOfAssertions l.frames.statements l.frames.names l.lists.lists.items
+invariant-loop-place l = AreMarkedFrom l.frames.statements (steps_of l.table) l.place l.marks.items

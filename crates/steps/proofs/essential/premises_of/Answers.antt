@@ -7,7 +7,7 @@ premises_among-requires c =
     let S = c.args.frames.now.statements in
     let rows = c.args.table.now in
     let m = c.in-Assertion.ensures in
-    let cited = (c.view_at-cited.ensures m.0 m.1.0).1 in
+    let cited = c.in_ok-cited-in-Assertion.ensures m.0 m.1.0 in
     ap length c.taken.ensures
     ∙ asks-all S c.args.at c.args.frames.now.names rows (get_or rows c.args.place no_row) (follows-at S c.args.at c.args.frames.now.names rows c.args.place c.requires.rows c.requires.place) c.position-position.result c.position-position.ensures
     m.0 _ _ m.1 cited.numbered_hypotheses
@@ -19,21 +19,21 @@ unreachable-requires c =
     never-nothing S c.args.at c.args.frames.now.names rows (get_or rows c.args.place no_row) (follows-at S c.args.at c.args.frames.now.names rows c.args.place c.requires.rows c.requires.place) c.position-position.result c.position-position.ensures
     (λ s. c.in-Nothing.ensures s)
 
-pub returns-in-Hypothesis-clause-premises : goal.returns-in-Hypothesis-clause-premises
-returns-in-Hypothesis-clause-premises c =
+pub returns-in-Hypothesis : goal.returns-in-Hypothesis
+returns-in-Hypothesis c =
     let S = c.args.frames.now.statements in
     let rows = c.args.table.now in
     let h = c.in-Hypothesis.ensures in
     c.new.ensures.items ∙ none-essential S c.args.at c.args.frames.now.names rows (get_or rows c.args.place no_row) (follows-at S c.args.at c.args.frames.now.names rows c.args.place c.requires.rows c.requires.place) c.position-position.result c.position-position.ensures
     h.0 h.1
 
-pub returns-in_ok-index-in-Assertion-clause-premises : goal.returns-in_ok-index-in-Assertion-clause-premises
-returns-in_ok-index-in-Assertion-clause-premises c =
+pub returns-in_ok-cited-in-Assertion : goal.returns-in_ok-cited-in-Assertion
+returns-in_ok-cited-in-Assertion c =
     let S = c.args.frames.now.statements in
     let rows = c.args.table.now in
     let m = c.in-Assertion.ensures in
-    let cited = (c.view_at-cited.ensures m.0 m.1.0).1 in
-    let hs = c.view_at-cited.result.hypotheses in
+    let cited = c.in_ok-cited-in-Assertion.ensures m.0 m.1.0 in
+    let hs = c.in_ok-cited-in-Assertion.cited.hypotheses in
     IfOk-weaker c.premises_among.result (λ list. list.items ≡ taken_for_essentials hs c.taken.result.now) _
     (λ list e. e ∙ (ap (taken_for_essentials hs) c.taken.ensures
     ∙ sym (essential-by S c.args.at c.args.frames.now.names rows (get_or rows c.args.place no_row) (follows-at S c.args.at c.args.frames.now.names rows c.args.place c.requires.rows c.requires.place) c.position-position.result c.position-position.ensures

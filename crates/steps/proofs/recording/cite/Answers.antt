@@ -1,6 +1,5 @@
-use Rattle.steps.proofs.Words.{◌∙◌, ap, subst, on_ok_weaker, expr_of, IsHypothesis, has_with, with_groups, stands-within, some-same}
+use Rattle.steps.proofs.Words.{◌∙◌, ap, subst, on_ok_weaker, expr_of, IsHypothesis, has_with, some-same}
 use Rattle.steps.proofs.CiteLemmas.{many, typed, typecodes-count, different, assertion-draft, assertion-done, hypothesis-draft, hypothesis-done}
-use Rattle.steps.proofs.ConcludingLemmas.{symbol_places-codes}
 use Rattle.steps.proofs.DraftedItemLemmas.{never-nothing}
 use Rattle.steps.proofs.recording.cite.Goals as goal
 
@@ -9,36 +8,36 @@ cite_assertion-requires-clause-many c =
     let p = c.requires.can in
     let q = p.3 in
     let m = c.in-Assertion.ensures in
-    let v = c.view_at-cited.ensures p.1 p.2.stands in
-    many c.args.frames.now.statements c.args.at c.args.frames.now.names c.requires.legal c.args.draft.now c.requires.draft p.0 q.0 q.2 c.args.position p.1 (with_groups c.view_at-cited.result v.0) p.2
-    (has_with c.args.frames.now.statements c.args.position p.1 m.0 p.0 p.2 m.1) m.2 v.1 q.1 q.3
+    let v = c.in_ok-cited-in-Assertion.ensures p.1 p.2.stands in
+    many c.args.frames.now.statements c.args.at c.args.frames.now.names c.requires.legal c.args.draft.now c.requires.draft p.0 q.0 q.2 c.args.position p.1 c.in_ok-cited-in-Assertion.cited p.2
+    (has_with c.args.frames.now.statements c.args.position p.1 m.0 p.0 p.2 m.1) m.2 v q.1 q.3
 
 pub cite_assertion-requires-clause-typecodes : goal.cite_assertion-requires-clause-typecodes
 cite_assertion-requires-clause-typecodes c =
     let p = c.requires.can in
     let q = p.3 in
     let m = c.in-Assertion.ensures in
-    let v = c.view_at-cited.ensures p.1 p.2.stands in
-    typecodes-count c.args.frames.now.statements c.args.at c.args.frames.now.names c.requires.legal c.args.draft.now c.requires.draft p.0 q.0 q.2 c.args.position p.1 (with_groups c.view_at-cited.result v.0) p.2
-    (has_with c.args.frames.now.statements c.args.position p.1 m.0 p.0 p.2 m.1) m.2 v.1 q.1 q.3
+    let v = c.in_ok-cited-in-Assertion.ensures p.1 p.2.stands in
+    typecodes-count c.args.frames.now.statements c.args.at c.args.frames.now.names c.requires.legal c.args.draft.now c.requires.draft p.0 q.0 q.2 c.args.position p.1 c.in_ok-cited-in-Assertion.cited p.2
+    (has_with c.args.frames.now.statements c.args.position p.1 m.0 p.0 p.2 m.1) m.2 v q.1 q.3
 
 pub cite_assertion-requires-clause-different : goal.cite_assertion-requires-clause-different
 cite_assertion-requires-clause-different c =
     let p = c.requires.can in
     let q = p.3 in
     let m = c.in-Assertion.ensures in
-    let v = c.view_at-cited.ensures p.1 p.2.stands in
-    different c.args.frames.now.statements c.args.at c.args.frames.now.names c.requires.legal c.args.draft.now c.requires.draft p.0 q.0 q.2 c.args.position p.1 (with_groups c.view_at-cited.result v.0) p.2
-    (has_with c.args.frames.now.statements c.args.position p.1 m.0 p.0 p.2 m.1) m.2 v.1 q.1 q.3
+    let v = c.in_ok-cited-in-Assertion.ensures p.1 p.2.stands in
+    different c.args.frames.now.statements c.args.at c.args.frames.now.names c.requires.legal c.args.draft.now c.requires.draft p.0 q.0 q.2 c.args.position p.1 c.in_ok-cited-in-Assertion.cited p.2
+    (has_with c.args.frames.now.statements c.args.position p.1 m.0 p.0 p.2 m.1) m.2 v q.1 q.3
 
 pub cite_assertion-requires-clause-typed : goal.cite_assertion-requires-clause-typed
 cite_assertion-requires-clause-typed c =
     let p = c.requires.can in
     let q = p.3 in
     let m = c.in-Assertion.ensures in
-    let v = c.view_at-cited.ensures p.1 p.2.stands in
-    typed c.args.frames.now.statements c.args.at c.args.frames.now.names c.requires.legal c.args.draft.now c.requires.draft p.0 q.0 q.2 c.args.position p.1 (with_groups c.view_at-cited.result v.0) p.2
-    (has_with c.args.frames.now.statements c.args.position p.1 m.0 p.0 p.2 m.1) m.2 v.1 q.1 q.3
+    let v = c.in_ok-cited-in-Assertion.ensures p.1 p.2.stands in
+    typed c.args.frames.now.statements c.args.at c.args.frames.now.names c.requires.legal c.args.draft.now c.requires.draft p.0 q.0 q.2 c.args.position p.1 c.in_ok-cited-in-Assertion.cited p.2
+    (has_with c.args.frames.now.statements c.args.position p.1 m.0 p.0 p.2 m.1) m.2 v q.1 q.3
 
 pub unreachable-requires : goal.unreachable-requires
 unreachable-requires c =
@@ -67,32 +66,23 @@ returns-in-Hypothesis-clause-done c =
     (subst (IsHypothesis c.args.frames.now.statements c.args.at c.args.position) same h.1) (h.2 ∙ ap expr_of same) h.3 c.cite_hypothesis.new.draft gives next run)
     c.cite_hypothesis.ensures
 
-pub returns-in_ok-index-in-Assertion-clause-draft : goal.returns-in_ok-index-in-Assertion-clause-draft
-returns-in_ok-index-in-Assertion-clause-draft c =
+pub returns-in_ok-cited-in-Assertion-clause-draft : goal.returns-in_ok-cited-in-Assertion-clause-draft
+returns-in_ok-cited-in-Assertion-clause-draft c =
     let p = c.requires.can in
     let q = p.3 in
     let m = c.in-Assertion.ensures in
-    let v = c.view_at-cited.ensures p.1 p.2.stands in
+    let v = c.in_ok-cited-in-Assertion.ensures p.1 p.2.stands in
     on_ok_weaker c.cite_assertion.result
-    (λ gives. assertion-draft c.args.frames.now.statements c.args.at c.args.frames.now.names c.requires.legal c.args.draft.now c.requires.draft p.0 q.0 q.2 c.args.position p.1 (with_groups c.view_at-cited.result v.0) p.2
-    (has_with c.args.frames.now.statements c.args.position p.1 m.0 p.0 p.2 m.1) m.2 v.1 q.1 q.3 c.cite_assertion.new.draft gives)
+    (λ gives. assertion-draft c.args.frames.now.statements c.args.at c.args.frames.now.names c.requires.legal c.args.draft.now c.requires.draft p.0 q.0 q.2 c.args.position p.1 c.in_ok-cited-in-Assertion.cited p.2
+    (has_with c.args.frames.now.statements c.args.position p.1 m.0 p.0 p.2 m.1) m.2 v q.1 q.3 c.cite_assertion.new.draft gives)
     c.cite_assertion.ensures
 
-pub returns-in_ok-index-in-Assertion-clause-done : goal.returns-in_ok-index-in-Assertion-clause-done
-returns-in_ok-index-in-Assertion-clause-done c =
+pub returns-in_ok-cited-in-Assertion-clause-done : goal.returns-in_ok-cited-in-Assertion-clause-done
+returns-in_ok-cited-in-Assertion-clause-done c =
     let m = c.in-Assertion.ensures in
     on_ok_weaker c.cite_assertion.result
     (λ gives label s carries st next tied run.
-    let v = c.view_at-cited.ensures s carries.stands in
-    assertion-done c.args.frames.now.statements c.args.at c.args.frames.now.names c.requires.legal c.args.draft.now c.requires.draft label st tied c.args.position s (with_groups c.view_at-cited.result v.0) carries
-    (has_with c.args.frames.now.statements c.args.position s m.0 label carries m.1) m.2 v.1 next run c.cite_assertion.new.draft gives)
+    let v = c.in_ok-cited-in-Assertion.ensures s carries.stands in
+    assertion-done c.args.frames.now.statements c.args.at c.args.frames.now.names c.requires.legal c.args.draft.now c.requires.draft label st tied c.args.position s c.in_ok-cited-in-Assertion.cited carries
+    (has_with c.args.frames.now.statements c.args.position s m.0 label carries m.1) m.2 v next run c.cite_assertion.new.draft gives)
     c.cite_assertion.ensures
-
-pub places-requires : goal.places-requires
-places-requires c = let p = c.requires.can in stands-within c.args.frames.now.statements c.args.position p.1 p.2.stands
-
-pub cite_assertion-requires-clause-symbol_places : goal.cite_assertion-requires-clause-symbol_places
-cite_assertion-requires-clause-symbol_places c =
-    let p = c.requires.can in
-    let is = (c.view_at-cited.ensures p.1 p.2.stands).1 in
-    symbol_places-codes c.args.frames.now.names _ (expr_of p.1) _ c.requires.legal.distinct is.conclusion_below is.conclusion (c.places.ensures.places p.1 p.2.stands)

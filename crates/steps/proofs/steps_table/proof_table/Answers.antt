@@ -14,7 +14,6 @@ loop-number-init c = (
     reached-start c.args.frames.now.statements c.args.at c.args.frames.now.names c.in_ok-positions.ensures.legal c.parts-parts.result.labels.now c.parts-parts.result.numbers.now c.args.items.now c.new-draft.result c.parts-parts.ensures c.requires
         c.new-draft.ensures.empty.0 c.new-draft.ensures.empty.1 c.new-draft.ensures.empty.2,
   ),
-  rw c.new-lists.ensures tt,
 )
 
 pub record_item-requires-clause-place : goal.record_item-requires-clause-place
@@ -42,7 +41,6 @@ loop-number-preserved c =
         reached-next c.args.frames.now.statements c.args.at c.args.frames.now.names i.0 c.parts-parts.result.numbers.now c.loop-number.number-index c.loop-number.draft c.record_item.new.draft c.loop-number-test.true i.3
             (c.in_ok-record_item.ensures.done i.0 (subst (ArePositions c.args.frames.now.statements i.0) (sym c.deref.ensures.value) i.1)),
       ),
-      c.in_ok-record_item.ensures.lists,
     )
 
 pub returns-clause-steps : goal.returns-clause-steps

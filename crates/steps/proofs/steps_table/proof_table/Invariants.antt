@@ -1,4 +1,4 @@
-use Rattle.steps.proofs.Words.{◌≡◌, List, Name, ArePositions, HasLegalProperties, items_of, IsDraft, AreListsOfAssertions}
+use Rattle.steps.proofs.Words.{◌≡◌, List, Name, ArePositions, HasLegalProperties, items_of, IsDraft}
 use Rattle.steps.proofs.ReachedLemmas.{Reached}
 use Rattle.steps.proofs.steps_table.proof_table.Given as goal
 
@@ -11,4 +11,3 @@ invariant-loop-number l =
     × ArePositions l.frames.statements labels l.positions.items
     × (items_of labels l.number-items ≡ l.items)
     × Reached l.frames.statements l.at l.frames.names labels l.number-items l.number-index l.draft)
-    × AreListsOfAssertions l.frames.statements l.frames.names l.lists.lists.items
