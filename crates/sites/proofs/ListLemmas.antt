@@ -1,5 +1,7 @@
 -- Lists that positions are added to.
 use Rattle.sites.proofs.ReferenceWords.{◌≡◌, ◌≢◌, ◌⊎◌, ◌↔◌, ℕ, zero, suc, ◌+◌, ◌-◌, ◌<◌, ◌≤◌, List, [], ◌∷◌, ◌++◌, length, take, get_or, slice_set, Some, slice_get, Result, Ok, Err, OnOk, sym, ◌∙◌, ap, subst, refl, arith, inl, inr, take_all, cases_eq, cases_lt, take_more, get_or_past, get_or-set_other, get_or-set_same, length-set, slice_get-get_or, Ascends, AreAbove, In, ListsExactly, HasMore, HoldsForSome, in-place, place-in, last-in, last-out, those-by, Rises, IsIn, ArePositionsWhere, IsRoundTable}
+use Rattle.frame.proofs.Words.{◌==◌, ◌||◌, true, list_any, or_cases, or_right, true≢false}
+use Rattle.std.proofs.lemmas.Bool.Decides.{nat_tests}
 
 pub has-nothing : (P : ℕ → Type 0) (list : List ℕ) → ((p : ℕ) → P p → ⊥) → HasMore P list list
 has-nothing P list none = record { stays = λ p i. i; all = λ p q. absurd (none p q); only = λ p i. inl i }
@@ -165,3 +167,16 @@ rounds_more list last_rounds new news round position are is set = record {
     among : (k : ℕ) → get_or news k 0 ≡ round → (k ≡ position) ⊎ (k ≡ position → ⊥) → In k new
     among k e (inl here) = subst (In k) (sym is) (last-in k position list (inl here))
     among k e (inr apart) = subst (In k) (sym is) (last-in k position list (inr (are.listed k (sym (other k apart) ∙ e))))
+
+-- a position is found in a list by a test exactly if it is in it
+pub in-has : (p : ℕ) (xs : List ℕ) → In p xs → list_any (λ q. q == p) xs ≡ true
+in-has p [] i = absurd i
+in-has p (x ∷ xs) (inl e) = let t : (x == p) ≡ true = grind (arith, nat_tests, e) in ap (λ b. b || list_any (λ q. q == p) xs) t
+in-has p (x ∷ xs) (inr i) = or_right (x == p) (list_any (λ q. q == p) xs) (in-has p xs i)
+
+pub has-in : (p : ℕ) (xs : List ℕ) → list_any (λ q. q == p) xs ≡ true → In p xs
+has-in p [] h = absurd (true≢false (sym h))
+has-in p (x ∷ xs) h = elim (or_cases (x == p) (list_any (λ q. q == p) xs) h) [
+  | inl here ↦ let same : p ≡ x = grind (arith, nat_tests) in inl same
+  | inr there ↦ inr (has-in p xs there)
+]

@@ -1,6 +1,7 @@
 -- One step of the pass over the statements.
-use Rattle.sites.proofs.ReferenceWords.{◌≡◌, ◌⊎◌, ◌↔◌, ℕ, zero, suc, ◌+◌, ◌-◌, ◌<◌, ◌≤◌, Bool, true, false, IsTrue, List, [], ◌∷◌, ◌++◌, length, map, take, drop, get_or, replicate, slice_set, Some, sym, ◌∙◌, ap, subst, refl, arith, inl, inr, take_all, length-append, append-nil, cases_eq, cases_lt, Vec, drop_all, get_or-map, map-append, map-set, get_or-set_other, get_or-set_same, get_or_append_left, get_or_past, length-map, length-set, length-replicate, Ascends, has_position, In, ListsExactly, HasMore, HoldsForSome, last-in, last-out, those-by, in-has, has-in, Good, Cites, RestsOn, directly, through, Uses, IsAxiomAt, IsUser, is_axiom, cites-below, Database, Stmt, stmt_at, stands-within, ArePositionsWhere, AreListsOf, AreReferences, lists_of, AddsAxiom, AreWithin, AreExtendedAt, AreListsOfFirst}
-use Rattle.sites.proofs.ListLemmas.{has-as, has-both, in-more, more-in, next-apart, those-where, ascends-last}
+use Rattle.sites.proofs.ReferenceWords.{◌≡◌, ◌⊎◌, ◌↔◌, ℕ, zero, suc, ◌+◌, ◌-◌, ◌<◌, ◌≤◌, Bool, true, false, IsTrue, List, [], ◌∷◌, ◌++◌, length, map, take, drop, get_or, replicate, slice_set, Some, sym, ◌∙◌, ap, subst, refl, arith, inl, inr, take_all, length-append, append-nil, cases_eq, cases_lt, Vec, drop_all, get_or-map, map-append, map-set, get_or-set_other, get_or-set_same, get_or_append_left, get_or_past, length-map, length-set, length-replicate, Ascends, In, ListsExactly, HasMore, HoldsForSome, last-in, last-out, those-by, Good, Cites, RestsOn, directly, through, Uses, IsAxiomAt, IsUser, is_axiom, cites-below, Database, Stmt, stmt_at, stands-within, ArePositionsWhere, AreListsOf, AreReferences, lists_of, AddsAxiom, AreWithin, AreExtendedAt, AreListsOfFirst}
+use Rattle.sites.proofs.ListLemmas.{has-in, in-has, has-as, has-both, in-more, more-in, next-apart, those-where, ascends-last}
+use Rattle.frame.proofs.Words.{list_any, ◌==◌}
 
 -- a statement that is cited is an earlier one
 pub cites-within : (S : Database) (n a : ℕ) → Good S → Cites S (suc n) a → (0 < a) × (a ≤ n)
@@ -73,9 +74,9 @@ module _ (S : Database) (n k : ℕ) (old new : List ℕ) (are : ListsExactly (Ci
 
 citing-next : (S : Database) (n k : ℕ) (cited : List ℕ) (old new : List (List ℕ)) → ListsExactly (Cites S (suc n)) cited → AreExtendedAt (suc n) cited old new
     → ListsExactly (CiteUpto S n k) (get_or old k []) → ListsExactly (CiteUpto S (suc n) k) (get_or new k [])
-citing-next S n k cited old new those have are = by (has_position (suc k) cited) refl
+citing-next S n k cited old new those have are = by (list_any (λ q. q == suc k) cited) refl
   where
-    by : (b : Bool) → has_position (suc k) cited ≡ b → ListsExactly (CiteUpto S (suc n) k) (get_or new k [])
+    by : (b : Bool) → list_any (λ q. q == suc k) cited ≡ b → ListsExactly (CiteUpto S (suc n) k) (get_or new k [])
     by true e =
         let i = has-in (suc k) cited e in
         citing-more S n k (get_or old k []) (get_or new k []) are (have.those k i) (those.only (suc k) i)

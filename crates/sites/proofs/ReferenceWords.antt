@@ -1,12 +1,11 @@
 -- Re-exports of the definitions and lemmas with which this crate is proved.
 pub use Rattle.sites.specs.PassState.{AreListsOfFirst, IsRoundTable, AreWithin, AddsAxiom, AreExtendedAt, position_list, lists_of}
 pub use Rattle.sites.specs.References.{AreListsOf, AreReferences, ArePositionsWhere}
-pub use Rattle.entries.specs.PositionSets.{AreAbove, Ascends, has_position}
+pub use Rattle.frame.specs.Ascending.{AreAbove, Ascends}
 pub use Rattle.frame.proofs.AscendingLists.{in-place, place-in}
 pub use Rattle.frame.proofs.CollectLemmas.{last-in, last-out, ordered, those-by}
 pub use Rattle.frame.proofs.FoundByNumber.{map-back}
 pub use Rattle.frame.proofs.LegalLabels.{legal-labels}
-pub use Rattle.frame.proofs.MergedLemmas.{has-in, in-has}
 pub use Rattle.frame.specs.AtPosition.{ArePositions, HasLabelsOnce, IsPosition}
 pub use Rattle.frame.specs.Citations.{Carries}
 pub use Rattle.frame.specs.Stored.Hypotheses.{ListsExactly, HasMore, In, HoldsForSome}

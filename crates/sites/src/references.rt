@@ -1,6 +1,6 @@
 //! The cross references of a library.
 ghost use Rattle.std.specs.Prelude.{◌≡◌, ◌+◌, ◌-◌, ◌≤◌, ◌<◌, ◌++◌, ◌∷◌, [], length, get_or, replicate, slice_set, IsTrue, IfOk, OnOk};
-ghost use Rattle.entries.specs.PositionSets.{Ascends};
+ghost use Rattle.frame.specs.Ascending.{Ascends};
 ghost use Rattle.frame.specs.Stored.Hypotheses.{ListsExactly, HasMore, HoldsForSome};
 ghost use Rattle.library.specs.Good.{Good};
 ghost use Rattle.library.specs.Uses.{Cites, Uses, is_axiom};
