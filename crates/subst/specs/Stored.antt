@@ -1,5 +1,5 @@
--- Images stored by number, symbols appended to a buffer, and the variables of images. Public clauses
--- cite only `Appends` of these.
+-- Images stored by number, symbols appended to a buffer, sets of symbols, and the variables of
+-- images. Public clauses cite only `Appends` of these.
 pub mod ImageTables
 pub mod Written
 pub mod SymbolSets
