@@ -33,7 +33,6 @@ pub use Rattle.verify.proofs.RightLemmas.{provable-bare}
 pub use Rattle.verify.proofs.Words.{some-same}
 pub use Rattle.verify.specs.Concludes.{ConcludeAll, Concludes}
 pub use Rattle.verify.specs.Derivations.{Derivation, Derivations, apply, hyp, more}
-pub use Rattle.verify.specs.CitationCache.{IsCacheFor}
 pub use Rattle.verify.specs.Proves.{label_or_empty}
 pub use Rattle.verify.specs.Right.{IsRight, IsAnswerTo}
 pub use Rattle.verify.specs.Spells.{Spells, SpellsAll, cites_assertion, cites_hypothesis, marks, recalls, spells_more, spells_none}

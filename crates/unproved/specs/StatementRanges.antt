@@ -1,17 +1,14 @@
 -- Consecutive statements as jobs of a pool.
 -- Source: none; for the private functions of `statement_range` and `search`.
--- The code also has the frames, of which the model has only the names.
-use Rattle.std.specs.Prelude.{◌≡◌, ℕ, ◌+◌, ◌-◌, ◌≤◌, List, length, Option}
-use Rattle.mm_lex.specs.Alphabet.{Name}
+-- The code also has the frames, which the model leaves out.
+use Rattle.std.specs.Prelude.{◌≡◌, ℕ, ◌+◌, ◌-◌, ◌≤◌, length, Option}
 use Rattle.library.specs.Words.{Database, bares}
 use Rattle.library.specs.Judging.{IsProvedIfProvable}
 use Rattle.verify_pool.specs.Least.{IsLeast}
 
--- all statements, the names to which their frames give numbers, and a range: the positions after
--- `start`, up to `end`
+-- all statements, and a range: the positions after `start`, up to `end`
 pub record RangeView : Type 0 where
   pub statements : Database
-  pub names : List Name
   pub start : ℕ
   pub end : ℕ
 

@@ -7,8 +7,7 @@ use verify::{Answer, Checker};
 use verify_pool::Work;
 
 /// The statements at positions `start + 1` to `end`; the job of index `i` is the one at
-/// `start + 1 + i`. Contracts see all statements, the names to which the frames give numbers,
-/// `start` and `end`.
+/// `start + 1 + i`. Contracts see all statements, `start` and `end`.
 #[derive(Drop)]
 pub(crate) struct StatementRange<'a> {
     pub(crate) frames: &'a Frames,
@@ -22,29 +21,21 @@ impl<'a> Model for StatementRange<'a> {
 
     ghost Value = { RangeView };
 
-    ghost view = { λ a. record { statements = a.statements.now; names = a.frames.now.names; start = a.start; end = a.end } };
+    ghost view = { λ a. record { statements = a.statements.now; start = a.start; end = a.end } };
 
     ghost invariant = { λ a. IsRangeWithFrames a.frames.now.statements a.statements.now a.start a.end };
 }
 
 impl<'a> Work for StatementRange<'a> {
     ghost use Rattle.std.specs.Prelude.{◌-◌};
-    ghost use Rattle.scope.specs.Active.{bares};
     ghost use Rattle.unproved.specs.StatementRanges.{IsProvedIn};
-    ghost use Rattle.verify.specs.CitationCache.{IsCacheFor};
 
     ghost count = { λ range. range.end - range.start };
 
     ghost right = { IsProvedIn };
 
-    ghost is_cache_for = { λ range. IsCacheFor (bares range.statements) range.names };
-
     fn count(&self) -> usize {
         self.end - self.start
-    }
-
-    fn begin(&self, checker: &mut Checker) {
-        checker.clear_cache();
     }
 
     fn judge(&self, index: usize, checker: &mut Checker) -> Result<Answer, AllocError> {
