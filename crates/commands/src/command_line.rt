@@ -11,11 +11,10 @@ use crate::request::{
 use crate::weights::{WorkerCount, parse_weights};
 use clap::error::ErrorKind;
 use clap::{ArgMatches, Error};
-use finding::SearchQuery;
-use text::parse_number;
-use finding::{Pattern, PatternFault, SearchWords};
+use finding::{Pattern, PatternFault, SearchQuery, SearchWords};
 use std::alloc::{AllocError, Global};
 use synod::{MAX_NODES, Weights};
+use text::parse_number;
 
 /// Parses the words of a command line, without the program's own name.
 ///

@@ -11,8 +11,8 @@ use crate::script::LineFault;
 use crate::text_form::{TextForm, take_text};
 use bytes::Bytes;
 use library::{Entry, MAX_NAMES, Names, Submission};
-use text::parse_number;
 use std::alloc::{AllocError, Global};
+use text::parse_number;
 
 /// An entry, and the node at which it is offered.
 #[derive(Drop)]

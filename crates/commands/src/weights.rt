@@ -3,8 +3,8 @@ ghost use Rattle.std.specs.Prelude.{◌≡◌, ◌≤◌, ◌<◌, ◌⊎◌, Ma
 ghost use Rattle.commands.specs.declared.weights.TheConstants.{MAX_WORKERS};
 
 use crate::pieces::split_first_piece;
-use text::parse_number;
 use synod::{MAX_NODES, Weights};
+use text::parse_number;
 
 /// The greatest count of workers.
 pub const MAX_WORKERS: usize = 16;

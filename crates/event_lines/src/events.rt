@@ -9,8 +9,8 @@ ghost use Rattle.event_lines.specs.EventLines.{play_line_of_event, number_line};
 use crate::offers::push_offer;
 use commands::LINE_FEED;
 use net::Event;
-use text::push_number;
 use std::alloc::{AllocError, Global};
+use text::push_number;
 use world::Carried;
 
 /// Returns the lines of `play` for the events, in order. Each event is one line, except that a text

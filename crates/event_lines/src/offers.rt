@@ -7,8 +7,8 @@ ghost use Rattle.event_lines.specs.EventLines.{offer_bytes_line, offer_bytes_lin
 
 use commands::LINE_FEED;
 use library::{Entry, Submission};
-use text::push_number;
 use std::alloc::AllocError;
+use text::push_number;
 
 /// Appends the lines that offer an entry at a node.
 pub(crate) fn push_offer(text: &mut Vec<u8>, node: u8, entry: &Entry) -> Result<(), AllocError>

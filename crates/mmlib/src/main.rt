@@ -2,8 +2,8 @@
 //! streams to the crate `program`, which does the rest.
 #![tactic(auto)]
 
-use sites::SystemFolder;
 use program::{Fault, print, run};
+use sites::SystemFolder;
 use std::alloc::{AllocError, Global};
 use std::process::ExitCode;
 use std::{env, io};

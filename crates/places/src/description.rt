@@ -11,8 +11,8 @@ ghost use Rattle.places.specs.Walk.{CanSkip, SkipsRuns, state_after_run, descrip
 use crate::statement_tokens::ends_statement;
 use memchr::memchr;
 use mm_lex::Span;
-use text::next_run;
 use std::alloc::{AllocError, Global};
+use text::next_run;
 
 /// The state of a walk over the runs of a text, between two runs.
 #[derive(Clone, Copy, Drop)]

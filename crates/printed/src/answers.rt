@@ -9,8 +9,8 @@ use crate::packets::push_spaced_entry;
 use crate::verdict_text::push_verdict;
 use library::{Entry, Library, Listed, Verdict};
 use mm_read::{Stmt, push_line};
-use text::push_number;
 use std::alloc::AllocError;
+use text::push_number;
 
 /// Appends a line `ok N`, where N packets were posted so far.
 pub fn push_ok(text: &mut Vec<u8>, posted: u64) -> Result<(), AllocError>

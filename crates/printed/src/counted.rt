@@ -4,8 +4,8 @@ ghost use Rattle.std.specs.Prelude.{◌≡◌, ◌++◌, OnOk};
 ghost use Rattle.printed.specs.Counted.{counted_lines_text, carried_log_text, line_feeds_of};
 
 use crate::packets::push_spaced_value;
-use text::push_number;
 use std::alloc::AllocError;
+use text::push_number;
 use world::Carried;
 
 /// Appends a line of a word and the count of `lines`, and then `lines`, each with its line feed.

@@ -10,9 +10,9 @@ use itoa::Buffer;
 use library::{Cause, Verdict};
 use mm_lex::LexFault;
 use mm_read::{ReadFault, Stmt, push_line_with_proof, read};
-use text::push_number;
 use scope::Rule;
 use std::alloc::{AllocError, Global};
+use text::push_number;
 
 /// Returns the outline of a text: a line for each statement (its number, a space, and its export
 /// form with the number of proof tokens in place of the proof), then `good`, or `refused C4 N Gk`

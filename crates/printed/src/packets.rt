@@ -5,9 +5,9 @@ ghost use Rattle.printed.specs.Printed.{ballot_text, entry_text, report_text, pa
 ghost use Rattle.printed.specs.Printed.{proposal_text, body_text, packet_text};
 
 use library::Entry;
-use text::push_number;
 use std::alloc::AllocError;
 use synod::{Ballot, Body, Packet, SlotReport};
+use text::push_number;
 use world::Carried;
 
 /// Appends `FROM>TO`, a space, and the body of the packet.

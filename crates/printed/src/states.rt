@@ -4,9 +4,9 @@ ghost use Rattle.printed.specs.States.{role_text, role_and_promise, count_text, 
 ghost use Rattle.printed.specs.States.{line_end_text, state_text};
 
 use crate::packets::push_ballot;
-use text::push_number;
 use std::alloc::AllocError;
 use synod::{NodeState, Role};
+use text::push_number;
 
 /// Appends a line of the state of a node: its role with the ballot, the ballot that it promised,
 /// how many entries its log has, how many of them were applied, how many values wait until the node

@@ -7,8 +7,8 @@ ghost use Rattle.printed.specs.Trees.{label_line, tree_node_line, tree_lines};
 
 use mm_lex::Word;
 use mm_read::Stmt;
-use text::push_number;
 use std::alloc::AllocError;
+use text::push_number;
 use verify::Tree;
 
 /// Appends a line for each node of a derivation over these statements, parents before children,

@@ -3,9 +3,9 @@ ghost use Rattle.std.specs.Prelude.{◌≡◌, ◌++◌, decimal, OnOk};
 ghost use Rattle.printed.specs.Printed.{cause_text, rule_text, verdict_text};
 
 use library::{Cause, Verdict};
-use text::push_number;
 use scope::Rule;
 use std::alloc::AllocError;
+use text::push_number;
 
 /// Appends the verdict, and the cause of a refusal, without a line feed.
 pub fn push_verdict(text: &mut Vec<u8>, verdict: Verdict) -> Result<(), AllocError>

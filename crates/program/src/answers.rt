@@ -15,10 +15,10 @@ use extract::extract;
 use library::Library;
 use mm_lex::Word;
 use mm_read::Stmt;
-use text::push_number;
 use printed::{push_assertions, push_labels, push_tree};
 use std::alloc::{AllocError, Global};
 use std::io::Write;
+use text::push_number;
 
 /// Writes the answer to a question about a library. `text` has the same statements, in order, but a
 /// `$a` of the library may be a `$p` there (`--assume`); it may be empty if the answer prints

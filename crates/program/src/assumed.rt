@@ -7,11 +7,11 @@ use crate::streams::print;
 use commands::DatabaseQuestion;
 use library::Library;
 use mm_read::Stmt;
-use text::push_number;
 use std::alloc::{AllocError, Global};
 use std::io::Write;
 use std::mem::forget;
 use std::thread::Threads;
+use text::push_number;
 use unproved::LegalDatabase;
 use verify_pool::PoolSize;
 

@@ -7,11 +7,11 @@ use commands::NodeEntryId;
 use explanation::{DatabaseFault, explain_after};
 use library::{Cause, Entry, Library, Verdict};
 use mm_read::{ReadFault, read};
-use text::push_number;
 use places::{line_and_column, token_span};
 use printed::push_counted_lines;
 use std::alloc::{AllocError, Global};
 use std::collections::BTreeSet;
+use text::push_number;
 
 /// The decision of a node on an entry.
 #[derive(Drop)]

@@ -3,8 +3,8 @@ use crate::expected_output::{ExpectedOutput, PrintedOutput, compare, default_sta
 use crate::failing_streams::{FailingReader, FailingWriter};
 use crate::limited_folder::LimitedFolder;
 use crate::row::{Ending, ExpectedStderr, Row, StreamMode, Truncation};
-use sites::MemoryFolder;
 use program::run;
+use sites::MemoryFolder;
 use std::alloc::{AllocError, Global};
 use std::fmt::Display;
 use std::io::Read;

@@ -1,8 +1,8 @@
 //! Parses the rows of a file.
 use crate::row::{Ending, ExpectedStderr, Row, StreamMode, Truncation};
 use crate::row_texts::{RowLineFault, push_line, push_lines, word_of};
-use text::parse_number;
 use std::alloc::{AllocError, Global};
+use text::parse_number;
 
 /// Why the rows of a file are not parsed.
 #[derive(Drop)]

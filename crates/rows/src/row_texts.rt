@@ -1,6 +1,6 @@
 //! Texts of a row: literal bytes, and escapes that begin with a backslash.
-use text::{parse_number, push_number};
 use std::alloc::{AllocError, Global};
+use text::{parse_number, push_number};
 
 /// Why a line is not parsed.
 #[derive(Drop)]

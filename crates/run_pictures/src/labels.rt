@@ -4,12 +4,11 @@ ghost use Rattle.text.specs.Escapes.{html_text};
 
 use crate::step::Act;
 use library::Entry;
-use text::push_html;
 use net::Event;
-use text::push_number;
 use printed::{push_packet, push_verdict};
 use std::alloc::{AllocError, Global};
 use synod::Packet;
+use text::{push_html, push_number};
 use world::{Carried, World};
 
 /// The greatest number of bytes that a label shows of a packet's printed form or of an offered

@@ -5,10 +5,10 @@ use crate::rendezvous::Rendezvous;
 use crate::text_entries::{entry, with_new_library};
 use bytes::Bytes;
 use library::{Cause, Entry, Library, Verdict};
-use text::push_number;
 use std::alloc::{AllocError, Global};
 use std::test::Fail;
 use std::thread::Threads;
+use text::push_number;
 use verify_pool::{Gate, OpenGate, PoolSize};
 
 /// Texts whose proofs are shared among several workers, and the verdict on each.

@@ -2,9 +2,9 @@
 //! write no items.
 use mm_lex::Words;
 use mm_read::{Stmt, read};
-use text::push_number;
 use proof_code::{CodeFault, Items, is_compressed, normal, packed};
 use std::alloc::{AllocError, Global};
+use text::push_number;
 
 /// Tokens of proofs, and the numbers of the items that they write where h1 to h130 are the
 /// mandatory labels. The number 0 is a mark, one up to the count of labels cites a label, and a

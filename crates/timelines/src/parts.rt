@@ -1,7 +1,7 @@
 //! The parts of a picture: lines, points and texts.
 use crate::grid::{GridPoint, STUMP_DEPTH, TOP_EDGE, column_x, stump_end};
-use text::push_number;
 use std::alloc::AllocError;
+use text::push_number;
 
 /// How far an arrow from a node to itself goes to the left.
 const LOOP_WIDTH: u64 = 30;

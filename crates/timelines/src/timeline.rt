@@ -5,8 +5,8 @@ use crate::parts::{
     push_stump, push_stump_numbers,
 };
 use crate::style::{END, HEAD, STYLE};
-use text::push_number;
 use std::alloc::{AllocError, Global};
+use text::push_number;
 
 /// The look of a point.
 #[derive(Clone, Copy, Debug, PartialEq, Eq)]
