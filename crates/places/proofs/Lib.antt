@@ -3,4 +3,5 @@ pub mod BeginLemmas
 pub mod TokenSpanLemmas
 pub mod DescriptionLemmas
 pub mod SkipLemmas
+pub mod CommentFaultLemmas
 mod Rows

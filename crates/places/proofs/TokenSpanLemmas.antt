@@ -1,5 +1,5 @@
 -- The tokens that end statements, and the span of a token of a statement.
-use Rattle.places.proofs.Words.{◌≡◌, ℕ, zero, suc, ◌+◌, ◌-◌, ◌<◌, ◌≤◌, true, false, ◌&&◌, cond, List, [], ◌∷◌, ◌++◌, length, take, drop, get_or, refl, sym, ◌∙◌, ap, arith, append_assoc, length-append, Some, slice_get, codes, zero-add, IsSomeAnd, Option, None, slice_get_within, slice_get-get_or, length-map, drop-cons, list_all, and_parts, Span, Name, name_eq, is_symbol, is_label, has_byte, word, AreTokens, words, Stmt, Open, Close, Const, Var, Disj, Float, Ess, Axiom, Prove, Database, is_shaped, AreShaped, are_symbols, has_two, stmt_tokens, tokens_of, Reads, AreTokens-unique, symbol_plain, label_plain, symbols_of, plain_is_no_key, HasToken, token_index, IsTokenSpan, ends_statement, index_after_ends}
+use Rattle.places.proofs.Words.{◌≡◌, ℕ, zero, suc, ◌+◌, ◌-◌, ◌<◌, ◌≤◌, true, false, ◌&&◌, cond, List, [], ◌∷◌, ◌++◌, length, take, drop, get_or, refl, sym, ◌∙◌, ap, arith, append_assoc, length-append, Some, slice_get, codes, zero-add, IsSomeAnd, Option, None, slice_get_within, slice_get-get_or, length-map, drop-cons, list_all, and_parts, Span, Name, name_eq, is_symbol, is_label, has_byte, word, AreTokens, words, Stmt, Open, Close, Const, Var, Disj, Float, Ess, Axiom, Prove, Database, is_shaped, AreShaped, are_symbols, has_two, stmt_tokens, tokens_of, Reads, AreTokens-unique, symbol_plain, label_plain, symbols_of, plain_is_no_key, Result, Ok, Err, IsErrAnd, LexFault, HasToken, counted_token, token_index, IsTokenSpan, ends_statement, index_after_ends}
 
 -- ---- one end of a statement
 
@@ -164,3 +164,29 @@ span_is text spans S statement token are reads h span e =
     let some = h.token_from_one in
     let most = h.within in
     some_span text spans S statement token are written i is (omega (arith, is, room, count, all, some, most)) span e
+
+-- ---- the token that is counted out
+
+-- no token has a statement of number 0 ..
+pub statement_zero : (text : List ℕ) (spans : List Span) (statement token : ℕ) → statement ≡ 0 → None ≡ counted_token text spans statement token
+statement_zero text spans statement token zero_is = rw zero_is refl
+
+-- .. or the number 0
+pub token_zero : (text : List ℕ) (spans : List Span) (statement token : ℕ) → token ≡ 0 → None ≡ counted_token text spans statement token
+token_zero text spans zero token zero_is = refl
+token_zero text spans (suc n) token zero_is = rw zero_is refl
+
+-- with numbers from 1 it is the one at the index after the ends of the earlier statements
+pub counted_is : (text : List ℕ) (spans : List Span) (statement token : ℕ) → 1 ≤ statement → 1 ≤ token
+    → counted_token text spans statement token ≡ slice_get spans (index_after_ends (statement - 1) (words text spans) + (token - 1))
+counted_is text spans zero token some_statement some_token = absurd (omega (arith, some_statement))
+counted_is text spans (suc n) zero some_statement some_token = absurd (omega (arith, some_token))
+counted_is text spans (suc n) (suc k) some_statement some_token =
+    let earlier : n ≡ suc n - 1 = omega arith in
+    let own : k ≡ suc k - 1 = omega arith in
+    ap (λ m. slice_get spans (index_after_ends m (words text spans) + k)) earlier ∙ ap (λ j. slice_get spans (index_after_ends (suc n - 1) (words text spans) + j)) own
+
+-- the fault of the tokens is passed on
+pub passed_on : (r : Result (Option Span) LexFault) (passed fault : LexFault) → IsErrAnd r (λ f. f ≡ passed) → passed ≡ fault → r ≡ Err fault
+passed_on (Err f) passed fault h same = ap (λ (x : LexFault). let a : Result (Option Span) LexFault = Err x in a) (h ∙ same)
+passed_on (Ok span) passed fault h same = elim h [ ]

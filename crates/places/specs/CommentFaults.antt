@@ -1,23 +1,25 @@
 -- The kinds of comment faults, and the first token of the statement that contains a token.
 -- Source: Metamath, 4.1.2 (comments do not nest) and 4.1 (each statement but `${` and `$}` ends
 -- with `$.`).
--- The code looks only at the text up to the fault.
-use Rattle.std.specs.Prelude.{ℕ, ◌-◌, ◌<◌, ◌≤◌, List, IsTrue, IsFalse, take, slice_index_or, []}
+-- The code looks only at the text up to the fault; here a kind is defined by the whole text.
+use Rattle.std.specs.Prelude.{◌≡◌, ℕ, ◌-◌, ◌<◌, ◌≤◌, List, IsTrue, IsFalse, slice_index_or, []}
 use Rattle.mm_lex.specs.declared.span.Span.{Span}
 use Rattle.mm_lex.specs.Alphabet.{Name, runs}
-use Rattle.mm_lex.specs.Tokens.{AreTokens}
-use Rattle.mm_lex.specs.TextFaults.{IsStrayCloser, IsCommentFault}
+use Rattle.mm_lex.specs.TextFaults.{IsStrayCloser, IsNestedOpener, IsUnclosed}
 use Rattle.places.specs.declared.comments.CommentFaultKind.{CommentFaultKind}
 use Rattle.places.specs.declared.comments.CommentFaultKind.TheVariants.{StrayCloser, Nested, Unclosed}
 use Rattle.places.specs.TokenSpans.{ends_statement}
 
--- the fault at the offset is of this kind: a `$)` outside a comment; a `$(` inside a comment that
--- begins at `outer`, the comment fault of the text before the offset; for the third kind, that text
--- splits into tokens
+-- the `$(` at the offset is inside the comment whose `$(` begins at `outer`
+abbrev pub IsNestedIn : List ℕ → List Span → ℕ → ℕ → Type 0
+IsNestedIn text spans offset outer = (fault : IsNestedOpener text spans offset) × (fault.outer.start ≡ outer)
+
+-- the fault at the offset is of this kind: a `$)` outside a comment; a `$(` inside the comment that
+-- begins at `outer`; a `$(` of a comment that is never closed
 abbrev pub IsCommentFaultKind : List ℕ → ℕ → CommentFaultKind → Type 0
 IsCommentFaultKind text offset StrayCloser = IsStrayCloser text (runs text) offset
-IsCommentFaultKind text offset (Nested outer) = IsCommentFault (take offset text) outer
-IsCommentFaultKind text offset Unclosed = (tokens : List Span) × AreTokens (take offset text) tokens
+IsCommentFaultKind text offset (Nested outer) = IsNestedIn text (runs text) offset outer
+IsCommentFaultKind text offset Unclosed = IsUnclosed text (runs text) offset
 
 -- the statement of the token at this index begins at `start`: `start` is 0 or follows a token that
 -- ends a statement, and no token from `start` to before `token_index` ends one

@@ -2,7 +2,7 @@
 -- Source: Metamath, 4.1 and appendix E.
 -- The code counts the tokens that end a statement; here the tokens of the earlier statements are
 -- counted.
-use Rattle.std.specs.Prelude.{◌≡◌, ℕ, zero, suc, ◌+◌, ◌-◌, ◌≤◌, Bool, ◌||◌, if◌then◌else◌, List, [], ◌∷◌, length, take, Some, slice_get, codes}
+use Rattle.std.specs.Prelude.{◌≡◌, ℕ, zero, suc, ◌+◌, ◌-◌, ◌≤◌, Bool, ◌||◌, if◌then◌else◌, List, [], ◌∷◌, length, take, Option, Some, None, slice_get, codes}
 use Rattle.mm_lex.specs.declared.span.Span.{Span}
 use Rattle.mm_lex.specs.Alphabet.{Name, name_eq}
 use Rattle.mm_lex.specs.Tokens.{AreTokens, words}
@@ -38,3 +38,15 @@ abbrev pub index_after_ends : ℕ → List Name → ℕ
 index_after_ends zero ws = 0
 index_after_ends (suc n) [] = 0
 index_after_ends (suc n) (w ∷ ws) = suc (index_after_ends (if ends_statement w then n else suc n) ws)
+
+-- among all tokens of a text, the one that has this number after those of the earlier statements,
+-- both counted from 1; `None` if a number is 0 or there is no such token
+abbrev pub counted_token : List ℕ → List Span → ℕ → ℕ → Option Span
+counted_token text tokens zero token = None
+counted_token text tokens (suc earlier) zero = None
+counted_token text tokens (suc earlier) (suc k) = slice_get tokens (index_after_ends earlier (words text tokens) + k)
+
+-- the text splits into tokens, and the answer is the one that is counted out
+abbrev pub IsCountedToken : List ℕ → ℕ → ℕ → Option Span → Type 0
+IsCountedToken text statement token answer =
+    (tokens : List Span) × AreTokens text tokens × (answer ≡ counted_token text tokens statement token)

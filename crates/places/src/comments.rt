@@ -15,8 +15,7 @@ pub enum CommentFaultKind {
     Unclosed,
 }
 
-/// Returns the kind of the comment fault at an offset. For `Unclosed` the clause says only that the
-/// text before the offset splits into tokens.
+/// Returns the kind of the comment fault at an offset.
 ///
 /// Does not allocate. Cost: the size of the text before the offset.
 pub fn comment_fault_kind(text: &[u8], offset: usize) -> CommentFaultKind

@@ -1,11 +1,12 @@
 //! Finds the tokens of statements.
-ghost use Rattle.std.specs.Prelude.{◌≡◌, ℕ, ◌+◌, ◌-◌, ◌≤◌, IfOk, IfSome, IsSomeAnd, Some, slice_get, length};
+ghost use Rattle.std.specs.Prelude.{◌≡◌, ℕ, ◌+◌, ◌-◌, ◌≤◌, Err, IfErr, IfOk, IfSome, IsSomeAnd, Some, slice_get, length};
 ghost use Rattle.std.specs.List.{All};
 ghost use Rattle.mm_lex.specs.Alphabet.{word};
-ghost use Rattle.mm_lex.specs.Tokens.{AreTokens, IsWordAt, words};
+ghost use Rattle.mm_lex.specs.TextFaults.{IsCommentFault, IsFirstBadByte, IsLexFault};
+ghost use Rattle.mm_lex.specs.Tokens.{IsWordAt, words};
 ghost use Rattle.mm_read.specs.Statements.{Database};
 ghost use Rattle.mm_read.specs.Reads.{Reads};
-ghost use Rattle.places.specs.TokenSpans.{HasToken, IsTokenSpan, index_after_ends, ends_statement};
+ghost use Rattle.places.specs.TokenSpans.{HasToken, IsCountedToken, IsTokenSpan, counted_token, index_after_ends, ends_statement};
 ghost use Rattle.places.specs.CommentFaults.{BeginsStatement};
 
 use mm_lex::{LexFault, Span, tokens};
@@ -16,21 +17,40 @@ use std::alloc::Global;
 /// counts on into the later statements. Returns `None` if a number is 0 or the text has no such
 /// token.
 ///
-/// Errors: those of `mm_lex::tokens`. Cost: the size of the text.
+/// Errors: those of `mm_lex::tokens`: `Text` and `Comment` exactly if the text has that fault, even
+/// if every allocation fails; else `Memory`. Cost: the size of the text.
 pub fn token_span(
     alloc: Global,
     text: &[u8],
     statement: usize,
     token: usize,
 ) -> Result<Option<Span>, LexFault>
-    ensures { (S : Database) → Reads text.now S → HasToken S statement token
+    ensures token { (S : Database) → Reads text.now S → HasToken S statement token
         → IfOk result (λ span. IsSomeAnd span (IsTokenSpan text.now S statement token)) }
+    ensures counted { IfOk result (IsCountedToken text.now statement token) }
+    ensures text_fault { (offset : ℕ) → IsFirstBadByte text.now offset → result ≡ Err (LexFault.Text offset) }
+    ensures comment_fault { (offset : ℕ) → IsCommentFault text.now offset → result ≡ Err (LexFault.Comment offset) }
+    ensures fault { IfErr result (λ fault. IsLexFault text.now fault) }
 {
     let spans = tokens(alloc, text)?;
-    if statement == 0 || token == 0 {
-        return Ok(None);
+    Ok(counted_token(text, spans.as_slice(), statement, token))
+}
+
+/// Returns the span of the token with number `token` after the statements before the one with
+/// number `statement`, both from 1, or `None` if a number is 0 or `spans`, those of all tokens, has
+/// no such token.
+#[tactic(auto, using(crate::proofs::TokenSpanLemmas::statement_zero, crate::proofs::TokenSpanLemmas::token_zero, crate::proofs::TokenSpanLemmas::counted_is))]
+fn counted_token(text: &[u8], spans: &[Span], statement: usize, token: usize) -> Option<Span>
+    requires words { All (IsWordAt text.now) spans.now }
+    ensures { result ≡ counted_token text.now spans.now statement token }
+{
+    if statement == 0 {
+        return None;
     }
-    Ok(token_span_within(text, spans.as_slice(), statement, token))
+    if token == 0 {
+        return None;
+    }
+    token_span_within(text, spans, statement, token)
 }
 
 /// Returns the span of the token with number `token` in the statement with number `statement`, both
