@@ -51,3 +51,4 @@ pub mod CitingListLemmas
 pub mod KeptFactLemmas
 pub mod ShrunkStorage
 mod Rows
+mod SizeRows

@@ -10,6 +10,8 @@ pub mod AssertionView
 pub mod ExprPlaces
 pub mod LongEssentials
 pub mod WellTyped
+pub mod Sizes
+pub mod DisjointWork
 pub mod AtPosition
 pub mod PairFacts
 pub mod LastActive
