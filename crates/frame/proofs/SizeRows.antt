@@ -1,5 +1,5 @@
 -- Examples of sizes, rows and disjointness.
-use Rattle.frame.proofs.Words.{◌≡◌, ℕ, List, [], ◌∷◌, ◌++◌, codes, refl, Name, Stmt, Expr, Database, before, w, demo_before, demo_mp, demo, rows_front, row_ax, row_seven, row_th}
+use Rattle.frame.proofs.Words.{◌≡◌, [], ◌∷◌, ◌++◌, codes, refl, Database, before, w, demo_before, demo_mp, demo, rows_front, row_ax, row_seven, row_th}
 use Prim.Native.String.{String}
 use Rattle.mm_read.specs.declared.stmt.Stmt.TheVariants.{Axiom, Disj}
 use Rattle.frame.specs.Substitution.{Images}

@@ -16,4 +16,5 @@ pub mod Growth
 pub mod Plan
 pub mod Extents
 pub mod Proves
+pub mod Work
 pub mod Laws
