@@ -41,3 +41,4 @@ pub mod LabelLemmas
 pub mod PositionLemmas
 pub mod ShrunkStorage
 mod Rows
+mod SizeRows

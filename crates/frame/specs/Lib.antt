@@ -9,6 +9,8 @@ pub mod Below
 pub mod Ascending
 pub mod AssertionView
 pub mod WellTyped
+pub mod Sizes
+pub mod DisjointWork
 pub mod AtPosition
 pub mod LastActive
 pub mod Laws

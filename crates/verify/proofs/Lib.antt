@@ -20,4 +20,5 @@ pub mod LawsHold
 pub mod Computed
 pub mod MarkLemmas
 mod Rows
+mod WorkRows
 pub mod StopLemmas

@@ -14,4 +14,5 @@ pub mod Growth
 pub mod Plan
 pub mod Extents
 pub mod Proves
+pub mod Work
 pub mod Laws
