@@ -1,6 +1,6 @@
 -- Whether a compressed proof cites a marked statement, by its numbers and a test of each of its
 -- labels.
-use Rattle.library.proofs.Words.{◌≡◌, ◌↔◌, ℕ, zero, suc, ◌+◌, ◌-◌, ◌<◌, ◌≤◌, Bool, true, false, ◌||◌, if◌then◌else◌, List, [], ◌∷◌, ◌++◌, length, map, get_or, slice_index_or, take, drop, Option, Some, None, option_map, slice_get, refl, list_any, true≢false, length-append, sym, ◌∙◌, ap, subst, arith, append_assoc, inl, inr, slice_get-map, bytes_eq-Decides, map-append, length-map, length-drop, take_more, drop_more, get_or_append_left, append-nil, both_ways, true_from_ne_false, cases_lt, Name, name_eq, has_name, Stmt, Database, bare, bares, before, stmt_at, proof_of, hypotheses, HasLabelsOnce, IsPosition, Item, Cite, Recall, item_of, items_of, right_parenthesis, Writes, WritesCompressed, WritesFinishedCompressed, WritesFinishedNormal, is_compressed, label_or_empty, mandatory_labels, IsProvable, Good, HasItems, is_marked, cited_position, AreLabelMarks, ItemsCiteMarked, ProofCitesMarked, listed_in, ListsNone, ListsSome, get_or-map, get_or_from_slice_get, slice_get_within, get_or-append_right, take-add, cases_Bool, map-map, IsHeadingWithNumbers, share_label, positions-end, apart-written, shared-none, item-cite, item-recall}
+use Rattle.library.proofs.Words.{◌≡◌, ◌↔◌, ℕ, zero, suc, ◌+◌, ◌-◌, ◌<◌, ◌≤◌, Bool, true, false, ◌||◌, if◌then◌else◌, List, [], ◌∷◌, ◌++◌, length, map, get_or, slice_index_or, take, drop, Option, Some, None, option_map, slice_get, refl, list_any, true≢false, length-append, sym, ◌∙◌, ap, subst, arith, append_assoc, inl, inr, slice_get-map, bytes_eq-Decides, map-append, length-map, length-drop, take_more, drop_more, get_or_append_left, both_ways, true_from_ne_false, cases_lt, Name, name_eq, has_name, Stmt, Database, bare, bares, before, stmt_at, proof_of, hypotheses, HasLabelsOnce, IsPosition, Item, Cite, Recall, item_of, items_of, right_parenthesis, Writes, WritesCompressed, WritesFinishedCompressed, WritesFinishedNormal, is_compressed, label_or_empty, mandatory_labels, IsProvable, Good, HasItems, is_marked, cited_position, AreLabelMarks, ItemsCiteMarked, ProofCitesMarked, listed_in, ListsNone, ListsSome, get_or-map, take-add, cases_Bool, map-map, IsHeadingWithNumbers, share_label, positions-end, apart-written, shared-none, item-cite, item-recall}
 use Rattle.library.proofs.FrontLemmas.{AreHypothesesAt, hypotheses-at}
 use Rattle.library.proofs.UseMarkLemmas.{meets-items}
 use Rattle.library.proofs.MayCiteLemmas.{kind-labelled, cited-label}
@@ -45,12 +45,6 @@ module _ (S : Database) (marks : List Bool) where
     pub rest : drop n words ≡ left
     pub tests : (front : List Name) → AreLabelMarks S front marks old → AreLabelMarks S (front ++ take n words) marks label_marks
 
-  pub untested : (words : List Name) (old none : List Bool) → none ≡ [] → AreTested words words 0 old (old ++ none)
-  untested words old none is = record {
-    rest = refl;
-    tests = λ front w. subst (λ ls. AreLabelMarks S ls marks (old ++ none)) (sym (append-nil front)) (subst (AreLabelMarks S front marks) (sym (ap (λ ts. old ++ ts) is ∙ append-nil old)) w);
-  }
-
   module _ (words left : List Name) (n : ℕ) (old label_marks : List Bool) (tested : AreTested words left n old label_marks) (within : n < length words) where
     pub word-left : left ≡ [] → ⊥
     word-left none = let l = length-drop n words in let e = ap length (tested.rest ∙ none) in omega (arith, within, l, e)
@@ -75,27 +69,6 @@ module _ (S : Database) (marks : List Bool) where
 number-tested : (marks label_marks : List Bool) (label_positions : List (Option ℕ)) → label_marks ≡ map (is_marked marks) label_positions → (n : ℕ) → is_marked label_marks (Some n) ≡ is_marked marks (cited_position label_positions n)
 number-tested marks label_marks label_positions tests zero = refl
 number-tested marks label_marks label_positions tests (suc n) = ap (λ bs. get_or bs n false) tests ∙ get_or-map (is_marked marks) label_positions n None
-
--- the test of a number is that of its mandatory hypothesis, or that of a label listed after these
-pub label_marks-first : (marks : List Bool) (positions : List ℕ) (label_marks : List Bool) (n position : ℕ) → (n ≡ 0 → ⊥) → slice_get positions (n - 1) ≡ Some position
-    → is_marked (map (λ p. is_marked marks (Some p)) positions ++ label_marks) (Some n) ≡ is_marked marks (Some position)
-label_marks-first marks positions label_marks zero position n_is here = absurd (n_is refl)
-label_marks-first marks positions label_marks (suc k) position n_is here =
-    let k_is : suc k - 1 ≡ k = omega arith in
-    let there : slice_get positions k ≡ Some position = ap (slice_get positions) (sym k_is) ∙ here in
-    let within = slice_get_within positions k position there in
-    let test = λ (p : ℕ). is_marked marks (Some p) in
-    get_or_append_left (map test positions) label_marks false k (let l = length-map positions test in omega (arith, within, l))
-    ∙ (get_or_from_slice_get (map test positions) k (test position) false (slice_get-map test positions k ∙ ap (option_map test) there))
-
-pub label_marks-next : (marks : List Bool) (positions : List ℕ) (label_marks : List Bool) (n many : ℕ) → many ≡ length positions → many < n
-    → is_marked (map (λ p. is_marked marks (Some p)) positions ++ label_marks) (Some n) ≡ is_marked label_marks (Some (n - many))
-label_marks-next marks positions label_marks zero many is above = absurd (omega (arith, above))
-label_marks-next marks positions label_marks (suc k) many is above =
-    let test = λ (p : ℕ). is_marked marks (Some p) in
-    let long : length (map test positions) ≡ many = length-map positions test ∙ sym is in
-    let after : suc k - many ≡ suc (k - many) = omega (arith, above) in
-    get_or-append_right (map test positions) label_marks many k false long (omega (arith, above)) ∙ sym (ap (λ i. is_marked label_marks (Some i)) after)
 
 any-same : (f g : ℕ → Bool) → ((n : ℕ) → f n ≡ g n) → (ns : List ℕ) → list_any f ns ≡ list_any g ns
 any-same f g same [] = refl

@@ -89,7 +89,6 @@ pub use Rattle.verify.proofs.MarkLemmas.{lent-whole, no-mark}
 pub use Rattle.verify.proofs.RightLemmas.{provable-bare}
 pub use Rattle.verify.specs.Concludes.{ConcludeAll, Concludes}
 pub use Rattle.verify.specs.Derivations.{Derivation, Derivations, apply, hyp, more}
-pub use Rattle.verify.specs.CitationCache.{IsCacheFor}
 pub use Rattle.verify.specs.Proves.{Proves, label_or_empty, mandatory_labels}
 pub use Rattle.verify.specs.Right.{Derives, IsProvable, IsRight, IsAnswerTo}
 pub use Rattle.verify.specs.Spells.{Spells, SpellsAll, cites_assertion, cites_hypothesis, marks, recalls, spells_more, spells_none}

@@ -3,17 +3,14 @@
 -- The code keeps their positions, in order.
 use Rattle.std.specs.Prelude.{◌≡◌, ℕ, ◌<◌, ◌≤◌, List, [], ◌∷◌, length, slice_get, get_or, Option, Some, Result, IfOk}
 use Rattle.library.specs.Words.{Stmt, Database, bares, IsProvable}
-use Rattle.mm_lex.specs.Alphabet.{Name}
 use Rattle.std.specs.Borrow.{Bor, MutBor}
 use Rattle.verify_pool.specs.Least.{IsLeast}
 use Rattle.verify_pool.specs.declared.checkers.Checkers.{Checkers}
 use Rattle.library.specs.Judging.{IsProvedIfProvable}
 
--- statements, the list of names to which their frames give numbers, and positions among the
--- statements
+-- statements, and positions among them
 pub record ProofsAt : Type 0 where
   pub statements : Database
-  pub names : List Name
   pub positions : List ℕ
 
 -- if a `$p` is at the position of that index, it is proved

@@ -118,9 +118,9 @@ impl CheckedDatabase {
     /// first proof that is not right, or `None`.
     ///
     /// Errors: an allocation fails; nothing is added then. Cost: that of the statements added, each
-    /// of which `steps` counts at most twice; that of their proofs; and that of
-    /// `Checkers::repeat_searches`. Rolling back cannot fail. Most of the memory that only refused
-    /// statements needed is given back, if smaller blocks can be allocated.
+    /// of which `steps` counts at most twice, and that of their proofs. Rolling back cannot fail.
+    /// Most of the memory that only refused statements needed is given back, if smaller blocks can
+    /// be allocated.
     pub(crate) fn extend<
         E: Fn(&[Stmt], &mut Tables, &mut StepCounts, &mut Checkers) -> AddOutcome,
         F: Fn(&Proofs<'_>, &mut Checkers) -> Result<Option<usize>, AllocError>,
@@ -184,10 +184,8 @@ fn append_all(statements: &mut Vec<Stmt>, mut more: Vec<Stmt>) -> Result<(), All
 }
 
 /// Adds the statements after the first `start` to the tables, which have taken these first ones.
-/// Before that, the frames repeat long searches that the checkers made for the text before, and
-/// keep the answers.
 ///
-/// Cost: that of `add`, and that of `Checkers::repeat_searches`.
+/// Cost: that of `add`.
 fn add_after<E: Fn(&[Stmt], &mut Tables, &mut StepCounts, &mut Checkers) -> AddOutcome>(
     statements: &[Stmt],
     start: usize,
@@ -204,7 +202,6 @@ fn add_after<E: Fn(&[Stmt], &mut Tables, &mut StepCounts, &mut Checkers) -> AddO
     ensures rises { count_of steps.old ≤ count_of steps.new }
     ensures counted { count_of steps.new ≤ count_of steps.old + 2 * (length statements.now - start) }
 {
-    checkers.repeat_searches(&mut tables.frames);
     add(&statements[start..], tables, steps, checkers)
 }
 

@@ -1,18 +1,16 @@
 //! The theorems that use a statement: the `$p` that cite it or, if all users are asked for, that
 //! rest on it.
-ghost use Rattle.std.specs.Prelude.{◌≡◌, ◌≤◌, ◌↔◌, ◌++◌, true, false, Some, length, take, IfOk};
+ghost use Rattle.std.specs.Prelude.{◌≡◌, ◌≤◌, ◌↔◌, true, false, Some, length, take, IfOk};
 ghost use Rattle.frame.specs.AtPosition.{HasLabelsOnce};
-ghost use Rattle.frame.specs.FrameOf.{hypotheses};
-ghost use Rattle.library.specs.UseMarks.{is_marked, marks_at, DecidesNumbersCiteMarked, ProofCitesMarked, ListsNone, ListsSome};
+ghost use Rattle.library.specs.UseMarks.{is_marked, DecidesNumbersCiteMarked, ProofCitesMarked, ListsNone, ListsSome};
 ghost use Rattle.library.specs.Uses.{IsUser, AreLabelsOf};
 ghost use Rattle.mm_read.specs.declared.stmt.Stmt.{Stmt as Statement};
-ghost use Rattle.proof_code.specs.Writes.{is_compressed};
-ghost use Rattle.scope.specs.Active.{bare, bares, before, proof_of};
+ghost use Rattle.scope.specs.Active.{proof_of};
 ghost use Rattle.std.specs.List.{list_any};
 ghost use Rattle.verify.specs.Right.{IsProvable};
 
 use crate::checked_database::CheckedDatabase;
-use frame::{Frames, MandatoryView};
+use frame::Frames;
 use mm_lex::{Word, Words};
 use mm_read::Stmt;
 use proof_code::{Heading, Reader, is_compressed};
@@ -84,9 +82,6 @@ impl Search {
         if !is_compressed(tokens) {
             return Ok(lists_marked(frames, tokens, marks));
         }
-        if let Some(view) = frames.mandatory_view(at)? {
-            return self.cites_marked_by_view(database, at, tokens, marks, &view);
-        }
         self.mandatory.clear();
         frames.mandatory(at, &mut self.mandatory)?;
         if !has_marked(&self.mandatory, marks) {
@@ -106,31 +101,6 @@ impl Search {
             marks,
             &mut self.label_marks,
         )
-    }
-}
-
-impl Search {
-    /// Answers as `cites_marked` does, for a proof with many mandatory hypotheses, which are read
-    /// through a view.
-    fn cites_marked_by_view(
-        &mut self,
-        database: &CheckedDatabase,
-        at: usize,
-        tokens: &Words,
-        marks: &[bool],
-        view: &MandatoryView<'_>,
-    ) -> Result<bool, AllocError>
-        requires provable { (s : Statement) × IsProvable database.now at s × (proof_of s ≡ tokens.now) }
-        requires compressed { is_compressed tokens.now ≡ true }
-        requires view { (s : Statement) → IsProvable database.now at s → view.now ≡ hypotheses (before (bares database.now) at) (bare s) }
-        ensures { IfOk result (λ found. found ≡ true ↔ ProofCitesMarked database.now at marks.now) }
-    {
-        let frames = database.frames();
-        let Some(heading) = self.reader.read(tokens, view.len())? else {
-            return Ok(false);
-        };
-        let numbers = self.reader.numbers();
-        numbers_cite_marked_by_view(frames, heading, numbers, view, marks, &mut self.label_marks)
     }
 }
 
@@ -170,62 +140,6 @@ fn numbers_cite_marked(
         }
     }
     Ok(has_marked(numbers, label_marks))
-}
-
-/// Answers as `numbers_cite_marked` does, with the mandatory hypotheses read through a view, and
-/// flags for the listed labels alone.
-fn numbers_cite_marked_by_view(
-    frames: &Frames,
-    heading: Heading<'_>,
-    numbers: &[u32],
-    view: &MandatoryView<'_>,
-    marks: &[bool],
-    label_marks: &mut Vec<bool>,
-) -> Result<bool, AllocError>
-    requires once { HasLabelsOnce frames.now.statements }
-    requires listed { heading.count ≤ length heading.words }
-    ensures { IfOk result (DecidesNumbersCiteMarked frames.now.statements marks.now view.now (take heading.entry.count heading.entry.words) numbers.now) }
-{
-    label_marks.clear();
-    let mut words = heading.words;
-    for _ in 0..heading.count {
-        let Some(label) = words.next() else {
-            unreachable!();
-        };
-        label_marks.push(is_marked(marks, frames.position(label)))?;
-    }
-    Ok(has_marked_number(view, marks, label_marks, numbers))
-}
-
-/// Returns whether one of the numbers is that of a marked mandatory hypothesis or listed label.
-fn has_marked_number(
-    view: &MandatoryView<'_>,
-    marks: &[bool],
-    label_marks: &[bool],
-    numbers: &[u32],
-) -> bool
-    ensures { result ≡ list_any (λ n. is_marked (marks_at marks.now view.now ++ label_marks.now) (Some n)) numbers.now }
-{
-    numbers.iter().any(|number| is_marked_number(view, marks, label_marks, *number as usize))
-}
-
-/// Returns whether the number is that of a marked mandatory hypothesis or listed label.
-fn is_marked_number(
-    view: &MandatoryView<'_>,
-    marks: &[bool],
-    label_marks: &[bool],
-    number: usize,
-) -> bool
-    ensures { result ≡ is_marked (marks_at marks.now view.now ++ label_marks.now) (Some number) }
-{
-    let mandatory_count = view.len();
-    if number == 0 {
-        return false;
-    }
-    if number <= mandatory_count {
-        return is_marked(marks, Some(view.get(number - 1) as usize));
-    }
-    is_marked(label_marks, Some(number - mandatory_count))
 }
 
 /// Returns whether one of the numbers is marked. They are positions, or numbers of items if `marks`

@@ -104,9 +104,8 @@ impl Library {
     /// Errors: an allocation fails; the entry stays undecided, and statements, verdicts and charter
     /// are as before.
     /// Cost: that of reading the entry's text and of judging its statements and proofs, whatever
-    /// was added before and whoever submitted it, with the exceptions of `docs/COSTS.md`; the
-    /// logarithm of the count of entries; and that of the searches made for the text before, which
-    /// the frames repeat (`Checkers::repeat_searches`).
+    /// was added before and whoever submitted it, with the exceptions of `docs/COSTS.md`; and the
+    /// logarithm of the count of entries.
     pub fn apply(&mut self, next: Option<&Entry>) -> Result<Verdict, AllocError>
         ensures applies { IfOk result (λ verdict. Applies self.old.replica (option_map (λ e. e.now) next.entry) verdict self.new.replica) }
         ensures same { OnErr result (self.new.replica ≡ self.old.replica) }

@@ -12,8 +12,8 @@ use std::marker::Model;
 use verify::{Answer, Checker};
 use verify_pool::{Checkers, Work};
 
-/// The `$p` to be judged, by position, as jobs for a pool of workers. Contracts see all statements,
-/// the list of names to which the frames give numbers, and the positions of these `$p`.
+/// The `$p` to be judged, by position, as jobs for a pool of workers. Contracts see all statements
+/// and the positions of these `$p`.
 #[derive(Drop)]
 pub(crate) struct Proofs<'a> {
     frames: &'a Frames,
@@ -26,7 +26,7 @@ impl<'a> Model for Proofs<'a> {
 
     ghost Value = { ProofsAt };
 
-    ghost view = { λ a. record { statements = a.statements.now; names = a.frames.now.names; positions = a.positions.items } };
+    ghost view = { λ a. record { statements = a.statements.now; positions = a.positions.items } };
 
     ghost invariant = { λ a. AreProofs a.statements.now a.frames.now.statements a.positions.items };
 }
@@ -34,21 +34,13 @@ impl<'a> Model for Proofs<'a> {
 impl<'a> Work for Proofs<'a> {
     ghost use Rattle.std.specs.Prelude.{length};
     ghost use Rattle.library.specs.ProofJobs.{IsRightProof};
-    ghost use Rattle.scope.specs.Active.{bares};
-    ghost use Rattle.verify.specs.CitationCache.{IsCacheFor};
 
     ghost count = { λ proofs. length proofs.positions };
 
     ghost right = { IsRightProof };
 
-    ghost is_cache_for = { λ proofs. IsCacheFor (bares proofs.statements) proofs.names };
-
     fn count(&self) -> usize {
         self.positions.len()
-    }
-
-    fn begin(&self, checker: &mut Checker) {
-        checker.clear_cache();
     }
 
     fn judge(&self, index: usize, checker: &mut Checker) -> Result<Answer, AllocError> {

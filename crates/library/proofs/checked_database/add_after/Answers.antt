@@ -1,19 +1,11 @@
-use Rattle.library.proofs.Words.{◌∙◌, ap, arith, length-drop, take, take_rest, IsChecked}
+use Rattle.library.proofs.Words.{arith, length-drop, take_rest}
 use Rattle.library.proofs.CheckedDatabaseLemmas.{added-after}
 use Rattle.library.proofs.checked_database.add_after.Goals as goal
 
 pub returns-clause-added : goal.returns-clause-added
 returns-clause-added g c =
     let told = c.requires.adds.1 _ _ _ _ _ _ _ _ c.add.ensures in
-    let old = c.requires.checked in
-    let checked : IsChecked (take c.args.start c.args.statements.now) (record { rules = c.args.tables.now.rules; frames = c.repeat_searches.new.frames }) = record {
-      shaped = old.shaped;
-      good = old.good;
-      rules_are = old.rules_are;
-      marked_is = old.marked_is;
-      frames_are = ap (λ f. f.statements) c.repeat_searches.ensures ∙ old.frames_are;
-    } in
-    added-after c.args.statements.now c.args.start checked c.requires.within c.add.result told.0
+    added-after c.args.statements.now c.args.start c.requires.checked c.requires.within c.add.result told.0
 
 pub returns-clause-rises : goal.returns-clause-rises
 returns-clause-rises g c = (c.requires.adds.1 _ _ _ _ _ _ _ _ c.add.ensures).1.0

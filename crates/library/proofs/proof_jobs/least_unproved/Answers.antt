@@ -25,8 +25,8 @@ invariant_of-proofs g c =
 
 pub index-requires : goal.index-requires
 index-requires g c =
-    let told : IfOk c.first_wrong.result (IsLeast (IsRightProof (record { statements = c.args.statements.now; names = c.args.frames.now.names; positions = c.loop-index.positions.items })) (length c.loop-index.positions.items)) = c.requires.finds.1 _ _ _ _ c.first_wrong.ensures in
-    let least = subst (λ r. IfOk r (IsLeast (IsRightProof (record { statements = c.args.statements.now; names = c.args.frames.now.names; positions = c.loop-index.positions.items })) (length c.loop-index.positions.items))) c.in_ok-index.was told in
+    let told : IfOk c.first_wrong.result (IsLeast (IsRightProof (record { statements = c.args.statements.now; positions = c.loop-index.positions.items })) (length c.loop-index.positions.items)) = c.requires.finds.1 _ _ _ _ c.first_wrong.ensures in
+    let least = subst (λ r. IfOk r (IsLeast (IsRightProof (record { statements = c.args.statements.now; positions = c.loop-index.positions.items })) (length c.loop-index.positions.items))) c.in_ok-index.was told in
     let within = some-within c.args.statements.now c.args.start c.loop-index.positions.items (all-after c.args.statements.now c.args.start c.loop-index.index c.loop-index.positions.items (c.loop-index.auto.index-end c.requires.within) c.loop-index-test.false c.loop-index.invariant) c.in_ok-index.field-0 least c.in-Some.index c.in-Some.is in
     omega (arith, within, c.loop-index.positions.ok.0)
 
@@ -35,8 +35,8 @@ returns-in-Some g c =
     let S = c.args.statements.now in
     let ps = c.loop-index.positions.items in
     let answer = c.in_ok-index.field-0 in
-    let told : IfOk c.first_wrong.result (IsLeast (IsRightProof (record { statements = S; names = c.args.frames.now.names; positions = ps })) (length ps)) = c.requires.finds.1 _ _ _ _ c.first_wrong.ensures in
-    let least = subst (λ r. IfOk r (IsLeast (IsRightProof (record { statements = S; names = c.args.frames.now.names; positions = ps })) (length ps))) c.in_ok-index.was told in
+    let told : IfOk c.first_wrong.result (IsLeast (IsRightProof (record { statements = S; positions = ps })) (length ps)) = c.requires.finds.1 _ _ _ _ c.first_wrong.ensures in
+    let least = subst (λ r. IfOk r (IsLeast (IsRightProof (record { statements = S; positions = ps })) (length ps))) c.in_ok-index.was told in
     let within = some-within S c.args.start ps (all-after c.args.statements.now c.args.start c.loop-index.index c.loop-index.positions.items (c.loop-index.auto.index-end c.requires.within) c.loop-index-test.false c.loop-index.invariant) answer least c.in-Some.index c.in-Some.is in
     let at = c.index.ensures ∙ get_or_default ps c.in-Some.index c.index.result.now 0 within in
     subst (λ n. IsLeastUnproved S c.args.start (Some n)) (sym at) (some-unproved S c.args.start ps (all-after c.args.statements.now c.args.start c.loop-index.index c.loop-index.positions.items (c.loop-index.auto.index-end c.requires.within) c.loop-index-test.false c.loop-index.invariant) answer least c.in-Some.index c.in-Some.is)
@@ -44,6 +44,6 @@ returns-in-Some g c =
 pub returns : goal.returns
 returns g c =
     none-unproved c.args.statements.now c.args.start c.loop-index.positions.items (all-after c.args.statements.now c.args.start c.loop-index.index c.loop-index.positions.items (c.loop-index.auto.index-end c.requires.within) c.loop-index-test.false c.loop-index.invariant) c.in_ok-index.field-0
-    (let told : IfOk c.first_wrong.result (IsLeast (IsRightProof (record { statements = c.args.statements.now; names = c.args.frames.now.names; positions = c.loop-index.positions.items })) (length c.loop-index.positions.items)) = c.requires.finds.1 _ _ _ _ c.first_wrong.ensures in
-    subst (λ r. IfOk r (IsLeast (IsRightProof (record { statements = c.args.statements.now; names = c.args.frames.now.names; positions = c.loop-index.positions.items })) (length c.loop-index.positions.items))) c.in_ok-index.was told)
+    (let told : IfOk c.first_wrong.result (IsLeast (IsRightProof (record { statements = c.args.statements.now; positions = c.loop-index.positions.items })) (length c.loop-index.positions.items)) = c.requires.finds.1 _ _ _ _ c.first_wrong.ensures in
+    subst (λ r. IfOk r (IsLeast (IsRightProof (record { statements = c.args.statements.now; positions = c.loop-index.positions.items })) (length c.loop-index.positions.items))) c.in_ok-index.was told)
     c.in-None.is

@@ -21,14 +21,14 @@ returns-then-not-lists_marked c =
     (ap (list_any (λ position. is_marked c.args.marks.now (Some position))) (sym (c.deref.ensures.value ∙ listed)) ∙ (sym c.has_marked.ensures ∙ c.if-not-has_marked.true))
     (c.lists_marked-then-not-has_marked.ensures.none c.if-not-lists_marked.true)
 
-pub returns-in_default-2 : goal.returns-in_default-2
-returns-in_default-2 c =
+pub returns-in_default : goal.returns-in_default
+returns-in_default c =
     let p = c.requires in
     let F = c.frames-frames.result.now.statements in
     let listed = c.in_ok-mandatory.ensures.listed (bare p.0) (stands-bare c.args.database.now F c.args.at p.0 c.frames-frames.ensures.same p.1) in
     told-meets c.args.database.now F c.frames-frames.ensures.same c.frames-frames.ensures.good c.args.at p.0 c.args.tokens.now p.1 p.2 c.args.marks.now (sym c.is_compressed.ensures ∙ c.if-not-is_compressed.false) false
     (tells-nothing F c.args.tokens.now (mandatory_labels F c.args.at (bare p.0)) _ c.args.marks.now false
-    (labels-long F c.args.at (bare p.0) c.as_slice-count.result.now (c.as_slice-count.ensures.value ∙ listed)) (rw c.in_default-2.is at c.in_ok-heading.ensures.read))
+    (labels-long F c.args.at (bare p.0) c.as_slice-count.result.now (c.as_slice-count.ensures.value ∙ listed)) (rw c.in_default.is at c.in_ok-heading.ensures.read))
 
 pub returns : goal.returns
 returns c =
@@ -39,15 +39,8 @@ returns c =
     let listed = c.in_ok-mandatory.ensures.listed (bare p.0) (stands-bare c.args.database.now F c.args.at p.0 c.frames-frames.ensures.same p.1) in
     on_ok c.numbers_cite_marked.result
     (λ found told. told-meets c.args.database.now F c.frames-frames.ensures.same c.frames-frames.ensures.good c.args.at p.0 c.args.tokens.now p.1 p.2 marks (sym c.is_compressed.ensures ∙ c.if-not-is_compressed.false) found
-    (tells-heading c.args.tokens.now _ _ _ _ (rw c.in-Some-2.is at c.in_ok-heading.ensures.read) F labels marks found
+    (tells-heading c.args.tokens.now _ _ _ _ (rw c.in-Some.is at c.in_ok-heading.ensures.read) F labels marks found
     (labels-long F c.args.at (bare p.0) c.as_slice-count.result.now (c.as_slice-count.ensures.value ∙ listed))
-    (subst (λ ns. found ≡ true ↔ ItemsCiteMarked F (items_of (labels ++ take c.in-Some-2.heading.count c.in-Some-2.heading.words) ns) marks) c.numbers.ensures
+    (subst (λ ns. found ≡ true ↔ ItemsCiteMarked F (items_of (labels ++ take c.in-Some.heading.count c.in-Some.heading.words) ns) marks) c.numbers.ensures
     (told labels (mandatory-wanted F marks c.args.at (bare p.0) c.deref-2.result.now _ (c.deref-2.ensures.value ∙ listed) refl)))))
     c.numbers_cite_marked.ensures
-
-pub mandatory_view-requires : goal.mandatory_view-requires
-mandatory_view-requires c = has-assertion c.args.database.now c.frames-frames.result.now.statements c.args.at c.requires.0 c.frames-frames.ensures.same c.requires.1
-
-pub cites_marked_by_view-requires-clause-view : goal.cites_marked_by_view-requires-clause-view
-cites_marked_by_view-requires-clause-view c = λ s provable.
-    rw (← c.frames-frames.ensures.same) (rw c.in-Some.is at (c.in_ok-view.ensures (bare s) (stands-bare c.args.database.now c.frames-frames.result.now.statements c.args.at s c.frames-frames.ensures.same provable)))
