@@ -5,8 +5,9 @@ use Rattle.std.specs.Prelude.{◌≡◌, ℕ, ◌<◌, ◌≤◌, Bool, true, fa
 use Rattle.verify.specs.Words.{Name, Stmt, Expr, Database, before, AllBelow, Item, Cite, decode, HasLegalProperties, HasAssertion, AssertionView, IsViewOf, stmt_at}
 use Rattle.verify.specs.declared.label_table.LabelEntry.{LabelEntry}
 use Rattle.verify.specs.declared.label_table.LabelEntry.TheVariants.{Nothing}
-use Rattle.verify.specs.LabelTable.{IsEntry}
+use Rattle.verify.specs.LabelTable.{AreEntries, IsEntry}
 use Rattle.verify.specs.Machine.{Results, State, Cites, RunsItem}
+use Rattle.verify.specs.ResultPlaces.{HeldResults}
 use Rattle.verify.specs.Right.{weight_limit}
 use Rattle.verify.specs.declared.citation.ProofContext.{ProofContext}
 
@@ -30,8 +31,8 @@ HasCited S at names entry old new ok = ((label : Name) → IsEntry S at label en
 
 -- in the context of a proof, a label with this meaning was cited, which saves nothing; or it cannot
 -- be cited within the limit
-abbrev pub HasCitedIn : ProofContext → LabelEntry → Results ℕ → Results ℕ → Bool → Type 0
-HasCitedIn context entry old new ok = HasCited context.frames.now.statements context.at context.frames.now.names entry old new ok
+abbrev pub HasCitedIn : ProofContext → LabelEntry → HeldResults → HeldResults → Bool → Type 0
+HasCitedIn context entry old new ok = HasCited context.frames.now.statements context.at context.frames.now.names entry old.results new.results ok
 
 -- ---- results that are cached for the labels of the table, saved before those that were marked
 
@@ -55,8 +56,8 @@ pub record AreNamedAndCached (S : Database) (at : ℕ) (names : List Name) (tabl
   pub cached : AreCached S at names table st.saved
 
 -- in the context of a proof, the codes have names, and the cached results are right
-abbrev pub AreNamedAndCachedIn : ProofContext → List LabelEntry → Results ℕ → Type 0
-AreNamedAndCachedIn context table st = AreNamedAndCached context.frames.now.statements context.at context.frames.now.names table st
+abbrev pub AreNamedAndCachedIn : ProofContext → List LabelEntry → HeldResults → Type 0
+AreNamedAndCachedIn context table st = AreNamedAndCached context.frames.now.statements context.at context.frames.now.names table st.results
 
 -- the effect of an item if the first saved results are cached for labels
 abbrev pub RunsItemWithTable : Bool → Database → ℕ → List Name → List LabelEntry → Item → Results ℕ → Results ℕ → Type 0
@@ -64,8 +65,8 @@ RunsItemWithTable ok S at names table item old new = RunsItemByNumber ok S at na
     × (IsTrue ok → AreNamedAndCached S at names table new)
 
 -- in the context of a proof, the effect of an item if the first saved results are cached for labels
-abbrev pub RunsItemIn : ProofContext → List LabelEntry → Item → Results ℕ → Results ℕ → Bool → Type 0
-RunsItemIn context table item old new ok = RunsItemWithTable ok context.frames.now.statements context.at context.frames.now.names table item old new
+abbrev pub RunsItemIn : ProofContext → List LabelEntry → Item → HeldResults → HeldResults → Bool → Type 0
+RunsItemIn context table item old new ok = RunsItemWithTable ok context.frames.now.statements context.at context.frames.now.names table item old.results new.results
 
 -- ---- the requirements for running an item
 
@@ -86,3 +87,11 @@ pub record MayCite (context : ProofContext) (a : ℕ) (st : Results ℕ) : Type 
 abbrev pub IsCitedView : ProofContext → ℕ → AssertionView → Type 0
 IsCitedView context a c =
     (s : Stmt) → stmt_at context.frames.now.statements a ≡ Some s → IsViewOf context.frames.now.statements context.frames.now.names a s c
+
+-- in the context of a proof, the meaning of a label
+abbrev pub IsEntryIn : ProofContext → Name → LabelEntry → Type 0
+IsEntryIn context label entry = IsEntry context.frames.now.statements context.at label entry
+
+-- in the context of a proof, the table has the meaning of each label
+abbrev pub AreEntriesIn : ProofContext → List Name → List LabelEntry → Type 0
+AreEntriesIn context labels table = AreEntries context.frames.now.statements context.at labels table

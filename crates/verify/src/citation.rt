@@ -3,8 +3,8 @@
 ghost use Rattle.std.specs.Prelude.{List, IfOk};
 ghost use Rattle.mm_lex.specs.Alphabet.{Name};
 ghost use Rattle.proof_code.specs.ItemNumbers.{item_of};
-ghost use Rattle.verify.specs.RunsItemByNumber.{AreNamedAndCachedIn, AreNamed, RunsItemIn, HasCitedIn, IsCitedView, IsReady, MayCite};
-ghost use Rattle.verify.specs.LabelTable.{AreEntries, IsEntry};
+ghost use Rattle.verify.specs.RunsItemByNumber.{AreEntriesIn, IsEntryIn, IsReady, MayCite, IsCitedView};
+ghost use Rattle.verify.specs.RunsItemByNumber.{AreNamed, AreNamedAndCachedIn, HasCitedIn, RunsItemIn};
 ghost use Rattle.verify.specs.ResultPlaces.{UnchangedUnlessDone};
 
 use crate::cited::cited_view;
@@ -48,7 +48,7 @@ fn cite_by_view(
 ) -> Result<bool, AllocError>
     requires may { MayCite context.now position results.old.results }
     requires cited { IsCitedView context.now position cited.now }
-    ensures effect { IfOk result (HasCitedIn context.now (LabelEntry.Assertion position) results.old.results results.new.results) }
+    ensures effect { IfOk result (HasCitedIn context.now (LabelEntry.Assertion position) results.old results.new) }
     ensures unchanged { IfOk result (λ ok. UnchangedUnlessDone ok results.old.results results.new.results) }
 {
     let count = cited.hypotheses.len();
@@ -78,7 +78,7 @@ fn cite(
     buffers: &mut Buffers,
 ) -> Result<bool, AllocError>
     requires may { MayCite context.now position buffers.old.results.results }
-    ensures effect { IfOk result (HasCitedIn context.now (LabelEntry.Assertion position) buffers.old.results.results buffers.new.results.results) }
+    ensures effect { IfOk result (HasCitedIn context.now (LabelEntry.Assertion position) buffers.old.results buffers.new.results) }
     ensures unchanged { IfOk result (λ ok. UnchangedUnlessDone ok buffers.old.results.results buffers.new.results.results) }
 {
     let cited = cited_view(context.frames, position, &mut buffers.frame_buffers)?;
@@ -96,8 +96,8 @@ fn cite_entry(
 ) -> Result<bool, AllocError>
     requires ready { IsReady context.now }
     requires named { AreNamed context.now.frames.now.names buffers.old.results.results }
-    requires entry { (label : Name) × IsEntry context.now.frames.now.statements context.now.at label entry }
-    ensures effect { IfOk result (HasCitedIn context.now entry buffers.old.results.results buffers.new.results.results) }
+    requires entry { (label : Name) × IsEntryIn context.now label entry }
+    ensures effect { IfOk result (HasCitedIn context.now entry buffers.old.results buffers.new.results) }
     ensures unchanged { IfOk result (λ ok. UnchangedUnlessDone ok buffers.old.results.results buffers.new.results.results) }
 {
     match entry {
@@ -120,10 +120,10 @@ pub fn step(
     buffers: &mut Buffers,
 ) -> Result<bool, AllocError>
     requires ready { IsReady context.now }
-    requires named_and_cached { AreNamedAndCachedIn context.now table.now buffers.old.results.results }
-    requires entries { (labels : List Name) × AreEntries context.now.frames.now.statements context.now.at labels table.now }
-    ensures effect { (labels : List Name) → AreEntries context.now.frames.now.statements context.now.at labels table.now
-        → IfOk result (RunsItemIn context.now table.now (item_of labels number) buffers.old.results.results buffers.new.results.results) }
+    requires named_and_cached { AreNamedAndCachedIn context.now table.now buffers.old.results }
+    requires entries { (labels : List Name) × AreEntriesIn context.now labels table.now }
+    ensures effect { (labels : List Name) → AreEntriesIn context.now labels table.now
+        → IfOk result (RunsItemIn context.now table.now (item_of labels number) buffers.old.results buffers.new.results) }
     ensures unchanged { IfOk result (λ ok. UnchangedUnlessDone ok buffers.old.results.results buffers.new.results.results) }
 {
     if number == 0 {

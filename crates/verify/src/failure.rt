@@ -4,8 +4,7 @@ ghost use Rattle.std.specs.Prelude.{List, length, IfOk, IfSome, MatchOption};
 ghost use Rattle.mm_lex.specs.Alphabet.{Name};
 ghost use Rattle.mm_read.specs.declared.stmt.Stmt.{Stmt as Statement};
 ghost use Rattle.proof_code.specs.ItemNumbers.{items_of};
-ghost use Rattle.verify.specs.RunsItemByNumber.{IsReady, without_cached};
-ghost use Rattle.verify.specs.LabelTable.{AreEntries};
+ghost use Rattle.verify.specs.RunsItemByNumber.{AreEntriesIn, IsReady, without_cached};
 ghost use Rattle.verify.specs.Right.{IsProvable, IsRight};
 ghost use Rattle.verify.specs.Stops.{IsFirstFailure, StopsIn};
 
@@ -46,8 +45,8 @@ pub(crate) fn run_items(
     buffers: &mut Buffers,
 ) -> Result<usize, AllocError>
     requires ready { IsReady context.now }
-    requires entries { (labels : List Name) × AreEntries context.now.frames.now.statements context.now.at labels table.now }
-    ensures stops { (labels : List Name) → AreEntries context.now.frames.now.statements context.now.at labels table.now
+    requires entries { (labels : List Name) × AreEntriesIn context.now labels table.now }
+    ensures stops { (labels : List Name) → AreEntriesIn context.now labels table.now
         → IfOk result (λ done. StopsIn context.now (items_of labels numbers.now) done (without_cached (length table.now) buffers.new.results.results)) }
 {
     buffers.results.start(table.len())?;
