@@ -5,16 +5,19 @@
 use Rattle.std.specs.Prelude.{ℕ, zero, suc, ◌+◌, ◌*◌, ◌-◌, Bool, nat_le, if◌then◌else◌, List, [], ◌∷◌, ◌++◌, length, map, flat_map, take, drop, Option, Some, None, option_map, slice_get}
 use Rattle.std.specs.Cmp.Lexicographic.{pointwise}
 use Rattle.std.specs.Option.{option_map_or}
+use Rattle.std.specs.List.{list_all}
 use Rattle.mm_lex.specs.Alphabet.{name_eq, is_label}
 use Rattle.mm_read.specs.declared.stmt.Stmt.TheVariants.{Float}
 use Rattle.scope.specs.Active.{has_label, is_active}
+use Rattle.frame.specs.FrameOf.{mandatory_groups}
+use Rattle.frame.specs.Disjoint.{are_groups_disjoint}
 use Rattle.frame.specs.Sizes.{assertion_size}
 use Rattle.frame.specs.DisjointWork.{disjointness}
 use Rattle.proof_code.specs.ItemNumbers.{items_of}
 use Rattle.proof_code.specs.Text.{ListAndRest, list_and_rest, numbers_from, starts_with_mark}
 use Rattle.proof_code.specs.Reading.{share_label}
 use Rattle.proof_code.specs.Writes.{is_compressed}
-use Rattle.verify.specs.Words.{list_all, Name, Stmt, Expr, Database, before, stmt_at, expr_of, is_assertion, label_of, hypotheses, mandatory_groups, are_groups_disjoint, Images, applied, premises, Item, Cite, Recall, Mark}
+use Rattle.verify.specs.Words.{Name, Stmt, Expr, Database, before, stmt_at, expr_of, is_assertion, label_of, hypotheses, Images, applied, premises, Item, Cite, Recall, Mark}
 use Rattle.verify.specs.Machine.{State, start, with_result, with_mark}
 use Rattle.verify.specs.Right.{weight_limit}
 use Rattle.verify.specs.Proves.{mandatory_labels}
