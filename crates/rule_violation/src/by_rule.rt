@@ -217,7 +217,8 @@ fn expression_violation(
 /// variable, by its index, or `None`.
 #[tactic(auto, using(crate::proofs::ViolationLemmas::known_both, crate::proofs::ViolationLemmas::unknown_at))]
 fn unknown_symbol(earlier: &[Stmt], constant: &Word, variable: &Word) -> Option<RuleViolation>
-    ensures { MatchOption result (list_any (has_fault earlier.now fault.Unknown) (constant.now ∷ variable.now ∷ []) ≡ false) (IsSymbolViolation (constant.now ∷ variable.now ∷ []) (has_fault earlier.now fault.Unknown)) }
+    ensures { MatchOption result (list_any (has_fault earlier.now fault.Unknown) (constant.now ∷ variable.now ∷ []) ≡ false)
+        (IsSymbolViolation (constant.now ∷ variable.now ∷ []) (has_fault earlier.now fault.Unknown)) }
 {
     if !is_known_symbol(earlier, constant.as_bytes()) {
         return Some(RuleViolation::Symbol { symbol_index: 0 });
