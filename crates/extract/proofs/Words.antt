@@ -12,6 +12,7 @@ pub use Rattle.library.proofs.QueriesLemmas.{named, no-label, one-place}
 pub use Rattle.library.specs.Good.{Good}
 pub use Rattle.mm_lex.proofs.NameLemmas.{name_same}
 pub use Rattle.mm_lex.specs.Alphabet.{Name, has_name, name_eq}
+pub use Rattle.mm_read.specs.Export.{export_of}
 pub use Rattle.mm_read.specs.Reads.{Reads}
 pub use Rattle.mm_read.specs.Statements.{Database}
 pub use Rattle.mm_read.specs.declared.stmt.Stmt.{Stmt}

@@ -13,9 +13,8 @@ use library::{Entry, Library, Submission};
 use mm_read::push_line;
 use std::alloc::{AllocError, Global};
 
-/// Returns the text of good statements of the library, as `export` writes them: the assertions of
-/// these labels, all that their proofs use, and few others; all statements if those chosen are not
-/// an extract.
+/// Returns the export form of good statements of the library: the assertions of these labels, all
+/// that their proofs use, and few others; all statements if those chosen are not an extract.
 ///
 /// Errors: `NoLabel`, `NotAssertion` or `SameLabel` for the first wrong label, even if every
 /// allocation fails; else `Memory`.

@@ -1,3 +1,4 @@
 pub mod Search
 pub mod Marks
 pub mod Violations
+pub mod Laws

@@ -2,13 +2,13 @@
 -- Source: Metamath, 4.2.8.
 -- The code goes back from the end and counts the blocks that are closed later; the crate `scope`
 -- defines which statements are active.
-use Rattle.std.specs.Prelude.{◌≡◌, ℕ, suc, ◌-◌, Bool, ◌||◌, ◌&&◌, not, List, [], ◌∷◌, drop, Some, slice_get, IsTrue}
+use Rattle.std.specs.Prelude.{◌≡◌, ℕ, suc, ◌+◌, ◌-◌, Bool, false, ◌||◌, ◌&&◌, not, List, [], ◌∷◌, drop, Some, slice_get, IsTrue}
 use Rattle.std.specs.List.{list_any}
 use Rattle.mm_lex.specs.Alphabet.{Name, has_name}
 use Rattle.mm_read.specs.declared.stmt.Stmt.{Stmt}
 use Rattle.mm_read.specs.declared.stmt.Stmt.TheVariants.{Open, Close}
 use Rattle.mm_read.specs.Statements.{Database}
-use Rattle.scope.specs.Active.{stmt_at, stays_open, constants, variables, label_of, has_label, is_float_of, is_constant, is_variable, has_float}
+use Rattle.scope.specs.Active.{stmt_at, stays_open, active_from, constants, variables, label_of, has_label, is_float_of, is_constant, is_variable, has_float}
 use Rattle.rule_violation.specs.declared.symbol_search.SymbolFault.{SymbolFault}
 use Rattle.rule_violation.specs.declared.symbol_search.SymbolFault.TheVariants.{AlreadyUsed, NotNewVariable, Unknown, NotActiveVariable, Untyped}
 use Rattle.rule_violation.specs.declared.search.NameRole.{NameRole}
@@ -35,6 +35,11 @@ pub record PassesAt (S : Database) (i : ℕ) (test : Stmt → Bool) : Type 0 whe
 pub record IsActiveAt (S : Database) (i : ℕ) (test : Stmt → Bool) : Type 0 where
   pub at : PassesAt S i test
   pub stays : IsTrue (stays_open 0 (drop i S))
+
+-- the statement at i is the last one that passes the test and is active after S
+pub record IsLastActiveAt (S : Database) (i : ℕ) (test : Stmt → Bool) : Type 0 where
+  pub active : IsActiveAt S i test
+  pub last : list_any (λ p. test p.1) (active_from (i + 1) (drop i S)) ≡ false
 
 -- how many of the blocks that are open just before the statement are closed by it or later. Later
 -- statements close n of the blocks that are open just after it.

@@ -2,7 +2,7 @@
 -- Source: Metamath, 4.2; the rules are those of the crate `scope`.
 -- The code searches for a violation; under G2, G3 and G8 it seeks a repeated symbol last. Here a
 -- violation is defined without a search.
-use Rattle.std.specs.Prelude.{◌≡◌, ℕ, ◌<◌, Bool, false, ◌⊎◌, List, [], ◌∷◌, Some, slice_get, IsTrue, IsFalse}
+use Rattle.std.specs.Prelude.{◌≡◌, ℕ, ◌<◌, Bool, true, false, ◌⊎◌, List, [], ◌∷◌, Option, Some, slice_get, IsTrue, IsFalse, MatchOption}
 use Rattle.mm_lex.specs.Alphabet.{Name}
 use Rattle.mm_read.specs.declared.stmt.Stmt.{Stmt}
 use Rattle.mm_read.specs.declared.stmt.Stmt.TheVariants.{Float, Ess, Axiom, Prove}
@@ -41,6 +41,16 @@ IsTwice names first second = (first < second) × HoldsAt names second (λ x. sli
 abbrev pub IsRepeated : List Name → RuleViolation → Type 0
 IsRepeated names (Twice first second) = IsTwice names first second
 IsRepeated names violation = ⊥
+
+-- the violation is a first symbol x that is not a constant
+abbrev pub IsConstantViolation : Database → Name → RuleViolation → Type 0
+IsConstantViolation S x (Symbol k) = (k ≡ 0) × IsFalse (is_constant S x)
+IsConstantViolation S x violation = ⊥
+
+-- the violation is the first of the names, which is not a constant
+abbrev pub IsFirstNotConstant : Database → List Name → RuleViolation → Type 0
+IsFirstNotConstant S names (Symbol k) = (k ≡ 0) × HoldsAt names k (λ x. IsFalse (is_constant S x))
+IsFirstNotConstant S names violation = ⊥
 
 -- the expression of a `$e`, `$a` or `$p`, whose variables need an active `$f`
 abbrev pub typed_expr : Stmt → Expr
@@ -84,3 +94,8 @@ IsViolation S s G8 (Twice j k) = IsTwice (disjoint_names s) j k
 -- a variable that has no active `$f`
 IsViolation S s G9 (Symbol k) = HoldsAt (typed_expr s) k (λ x. IsTrue (is_variable S x) × IsFalse (has_float S x))
 IsViolation S s rule violation = ⊥
+
+-- what is found for a rule: nothing exactly if the statement keeps the rule after S, else a
+-- violation of it. Each of G1 to G10 can be broken; every statement keeps `Memory`, which is no rule
+abbrev pub IsViolationIfBroken : Database → Stmt → Rule → Option RuleViolation → Type 0
+IsViolationIfBroken S s rule found = MatchOption found (keeps S s rule ≡ true) (IsViolation S s rule)

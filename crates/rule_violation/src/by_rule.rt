@@ -1,25 +1,28 @@
 //! Finds a violation of a rule, with a function for each rule that needs a search, and a block that
 //! is open at the end.
-ghost use Rattle.std.specs.Prelude.{◌≡◌, ◌==◌, ◌&&◌, false, IfOk, IsSomeAnd, IfSome, MatchOption};
+ghost use Rattle.std.specs.Prelude.{◌≡◌, ◌==◌, ◌&&◌, ◌∷◌, [], true, false, IfOk, MatchOption};
 ghost use Rattle.std.specs.List.{list_any};
-ghost use Rattle.scope.specs.Active.{is_open};
-ghost use Rattle.scope.specs.Legal.{keeps};
+ghost use Rattle.scope.specs.Active.{active, count, is_close, is_constant, is_open};
+ghost use Rattle.scope.specs.Legal.{starts_with_constant};
 ghost use Rattle.scope.specs.declared.rule.Rule.TheVariants as rule;
-ghost use Rattle.rule_violation.specs.Search.{has_name_in, has_fault, IsActiveAt};
+ghost use Rattle.rule_violation.specs.Search.{has_name_in, has_fault, IsLastActiveAt};
 ghost use Rattle.rule_violation.specs.declared.search.NameRole.TheVariants as name_role;
-ghost use Rattle.rule_violation.specs.Violations.{IsLabelConflict, IsSymbolViolation, IsViolation};
+ghost use Rattle.rule_violation.specs.declared.symbol_search.SymbolFault.TheVariants as fault;
+ghost use Rattle.rule_violation.specs.Violations.{IsConstantViolation, IsFirstNotConstant, IsLabelConflict, IsSymbolViolation, IsViolationIfBroken};
 
 use crate::search::{NameRole, closed_blocks_from, find_active, find_earlier};
-use crate::symbol_search::{SymbolFault, first_repeated, first_with_fault, is_known_symbol};
+use crate::symbol_search::{
+    SymbolFault, first_repeated, first_with_fault, is_constant, is_known_symbol, is_variable,
+};
 use crate::violation::RuleViolation;
 use mm_lex::{Word, Words};
 use mm_read::Stmt;
 use scope::Rule;
 use std::alloc::{AllocError, Global};
 
-/// Returns a violation of a rule that a statement breaks after the earlier ones. If the statement
-/// keeps the rule, the result is not specified. `scope::Rule` lists the rules G1 to G10, and has
-/// `Memory` for a failed allocation, which is no rule.
+/// Returns a violation of a rule that a statement breaks after the earlier ones, or `None` exactly
+/// if it keeps the rule. `scope::Rule` lists the rules G1 to G10, and has `Memory` for a failed
+/// allocation, which is no rule: every statement keeps it.
 ///
 /// Errors: an allocation fails. Cost: a few passes over the earlier statements; each of their
 /// labels, declared symbols and variables of `$f`s is looked up among the symbols of the statement
@@ -30,21 +33,75 @@ pub fn violation_of(
     stmt: &Stmt,
     rule: Rule,
 ) -> Result<Option<RuleViolation>, AllocError>
-    ensures { keeps earlier.now stmt.now rule ≡ false → IfOk result (λ violation. IsSomeAnd violation (IsViolation earlier.now stmt.now rule)) }
+    ensures { IfOk result (IsViolationIfBroken earlier.now stmt.now rule) }
 {
     match rule {
-        Rule::G1 => Ok(Some(RuleViolation::Statement)),
+        Rule::G1 => Ok(block_violation(earlier, stmt)),
         Rule::G2 => constants_violation(alloc, earlier, stmt),
         Rule::G3 => variables_violation(alloc, earlier, stmt),
         Rule::G4 => Ok(label_violation(earlier, stmt)),
         Rule::G5 => expression_violation(alloc, earlier, stmt),
-        Rule::G6 => Ok(Some(RuleViolation::Symbol { symbol_index: 0 })),
+        Rule::G6 => Ok(typecode_violation(earlier, stmt)),
         Rule::G7 => Ok(float_violation(earlier, stmt)),
         Rule::G8 => disjoint_violation(alloc, earlier, stmt),
         Rule::G9 => untyped_violation(alloc, earlier, stmt),
-        Rule::G10 => Ok(Some(RuleViolation::Statement)),
+        Rule::G10 => Ok(closing_violation(earlier, stmt)),
         Rule::Memory => Ok(None),
     }
+}
+
+/// Returns a violation of G1 by a `$c` inside a block.
+fn block_violation(earlier: &[Stmt], stmt: &Stmt) -> Option<RuleViolation>
+    ensures { IsViolationIfBroken earlier.now stmt.now rule.G1 result }
+{
+    let Stmt::Const(_) = stmt else {
+        return None;
+    };
+    if count_opening(earlier) == count_closing(earlier) {
+        None
+    } else {
+        Some(RuleViolation::Statement)
+    }
+}
+
+/// Returns a violation of G10 by a `$}` that closes no block.
+fn closing_violation(earlier: &[Stmt], stmt: &Stmt) -> Option<RuleViolation>
+    ensures { IsViolationIfBroken earlier.now stmt.now rule.G10 result }
+{
+    let Stmt::Close = stmt else {
+        return None;
+    };
+    if count_closing(earlier) < count_opening(earlier) {
+        None
+    } else {
+        Some(RuleViolation::Statement)
+    }
+}
+
+/// Returns how many of the statements are `${`.
+fn count_opening(statements: &[Stmt]) -> usize
+    ensures { result ≡ count is_open statements.now }
+{
+    let mut opening = 0usize;
+    for stmt in statements {
+        if matches!(stmt, Stmt::Open) {
+            opening += 1;
+        }
+    }
+    opening
+}
+
+/// Returns how many of the statements are `$}`.
+fn count_closing(statements: &[Stmt]) -> usize
+    ensures { result ≡ count is_close statements.now }
+{
+    let mut closing = 0usize;
+    for stmt in statements {
+        if matches!(stmt, Stmt::Close) {
+            closing += 1;
+        }
+    }
+    closing
 }
 
 /// Returns a violation of G2 by a symbol of a `$c`.
@@ -53,7 +110,7 @@ fn constants_violation(
     earlier: &[Stmt],
     stmt: &Stmt,
 ) -> Result<Option<RuleViolation>, AllocError>
-    ensures { keeps earlier.now stmt.now rule.G2 ≡ false → IfOk result (λ violation. IsSomeAnd violation (IsViolation earlier.now stmt.now rule.G2)) }
+    ensures { IfOk result (IsViolationIfBroken earlier.now stmt.now rule.G2) }
 {
     let Stmt::Const(names) = stmt else {
         return Ok(None);
@@ -82,7 +139,7 @@ fn variables_violation(
     earlier: &[Stmt],
     stmt: &Stmt,
 ) -> Result<Option<RuleViolation>, AllocError>
-    ensures { keeps earlier.now stmt.now rule.G3 ≡ false → IfOk result (λ violation. IsSomeAnd violation (IsViolation earlier.now stmt.now rule.G3)) }
+    ensures { IfOk result (IsViolationIfBroken earlier.now stmt.now rule.G3) }
 {
     let Stmt::Var(names) = stmt else {
         return Ok(None);
@@ -113,7 +170,7 @@ fn variables_violation(
 
 /// Returns a violation of G4 by the label.
 fn label_violation(earlier: &[Stmt], stmt: &Stmt) -> Option<RuleViolation>
-    ensures { keeps earlier.now stmt.now rule.G4 ≡ false → IsSomeAnd result (IsViolation earlier.now stmt.now rule.G4) }
+    ensures { IsViolationIfBroken earlier.now stmt.now rule.G4 result }
 {
     match stmt {
         Stmt::Float { label, .. } => label_conflict(earlier, label),
@@ -141,19 +198,35 @@ fn expression_violation(
     earlier: &[Stmt],
     stmt: &Stmt,
 ) -> Result<Option<RuleViolation>, AllocError>
-    ensures { keeps earlier.now stmt.now rule.G5 ≡ false → IfOk result (λ violation. IsSomeAnd violation (IsViolation earlier.now stmt.now rule.G5)) }
+    ensures { IfOk result (IsViolationIfBroken earlier.now stmt.now rule.G5) }
 {
     match stmt {
-        Stmt::Float { constant, .. } => {
-            // If the first symbol is known, the second is the one that breaks the rule.
-            let symbol_index = usize::from(is_known_symbol(earlier, constant.as_bytes()));
-            Ok(Some(RuleViolation::Symbol { symbol_index }))
-        }
+        Stmt::Float {
+            constant,
+            variable,
+            ..
+        } => Ok(unknown_symbol(earlier, constant, variable)),
         Stmt::Ess { expr, .. } => faulty_symbol(alloc, earlier, expr, SymbolFault::Unknown),
         Stmt::Axiom { expr, .. } => faulty_symbol(alloc, earlier, expr, SymbolFault::Unknown),
         Stmt::Prove { expr, .. } => faulty_symbol(alloc, earlier, expr, SymbolFault::Unknown),
         _ => Ok(None),
     }
+}
+
+/// Returns the first of the two symbols of a `$f` that is neither a constant nor an active
+/// variable, by its index, or `None`.
+#[tactic(auto, using(crate::proofs::ViolationLemmas::known_both, crate::proofs::ViolationLemmas::unknown_at))]
+fn unknown_symbol(earlier: &[Stmt], constant: &Word, variable: &Word) -> Option<RuleViolation>
+    ensures { MatchOption result (list_any (has_fault earlier.now fault.Unknown) (constant.now ∷ variable.now ∷ []) ≡ false)
+        (IsSymbolViolation (constant.now ∷ variable.now ∷ []) (has_fault earlier.now fault.Unknown)) }
+{
+    if !is_known_symbol(earlier, constant.as_bytes()) {
+        return Some(RuleViolation::Symbol { symbol_index: 0 });
+    }
+    if !is_known_symbol(earlier, variable.as_bytes()) {
+        return Some(RuleViolation::Symbol { symbol_index: 1 });
+    }
+    None
 }
 
 /// Returns the first of the symbols with this fault, by its index, or `None` if none has it.
@@ -171,9 +244,51 @@ fn faulty_symbol(
     }
 }
 
+/// Returns a violation of G6 by the first symbol of the expression.
+fn typecode_violation(earlier: &[Stmt], stmt: &Stmt) -> Option<RuleViolation>
+    ensures { IsViolationIfBroken earlier.now stmt.now rule.G6 result }
+{
+    match stmt {
+        Stmt::Float { constant, .. } => float_typecode_violation(earlier, constant),
+        Stmt::Ess { expr, .. } => first_not_constant(earlier, expr),
+        Stmt::Axiom { expr, .. } => first_not_constant(earlier, expr),
+        Stmt::Prove { expr, .. } => first_not_constant(earlier, expr),
+        _ => None,
+    }
+}
+
+/// Returns the first symbol of a `$f` if it is not a constant, else `None`.
+fn float_typecode_violation(earlier: &[Stmt], constant: &Word) -> Option<RuleViolation>
+    ensures { MatchOption result (is_constant earlier.now constant.now ≡ true) (IsConstantViolation earlier.now constant.now) }
+{
+    not_constant(earlier, constant.as_bytes())
+}
+
+/// Returns the first of the symbols if it is not a constant, else `None`.
+fn first_not_constant(earlier: &[Stmt], names: &Words) -> Option<RuleViolation>
+    ensures { MatchOption result (starts_with_constant earlier.now names.now ≡ true) (IsFirstNotConstant earlier.now names.now) }
+{
+    match names.iter().next() {
+        Some(first) => not_constant(earlier, first),
+        None => None,
+    }
+}
+
+/// Returns a first symbol if it is not a constant, else `None`.
+fn not_constant(earlier: &[Stmt], first: &[u8]) -> Option<RuleViolation>
+    ensures { MatchOption result (is_constant earlier.now first.now ≡ true) (IsConstantViolation earlier.now first.now) }
+{
+    if is_constant(earlier, first) {
+        None
+    } else {
+        Some(RuleViolation::Symbol { symbol_index: 0 })
+    }
+}
+
 /// Returns a violation of G7 by the second symbol of a `$f`.
+#[tactic(auto, using(crate::proofs::ViolationLemmas::G7_kept))]
 fn float_violation(earlier: &[Stmt], stmt: &Stmt) -> Option<RuleViolation>
-    ensures { keeps earlier.now stmt.now rule.G7 ≡ false → IsSomeAnd result (IsViolation earlier.now stmt.now rule.G7) }
+    ensures { IsViolationIfBroken earlier.now stmt.now rule.G7 result }
 {
     let Stmt::Float { variable, .. } = stmt else {
         return None;
@@ -183,7 +298,13 @@ fn float_violation(earlier: &[Stmt], stmt: &Stmt) -> Option<RuleViolation>
             symbol_index: 1,
             earlier_position,
         }),
-        None => Some(RuleViolation::Symbol { symbol_index: 1 }),
+        None => {
+            if is_variable(earlier, variable.as_bytes()) {
+                None
+            } else {
+                Some(RuleViolation::Symbol { symbol_index: 1 })
+            }
+        }
     }
 }
 
@@ -193,7 +314,7 @@ fn disjoint_violation(
     earlier: &[Stmt],
     stmt: &Stmt,
 ) -> Result<Option<RuleViolation>, AllocError>
-    ensures { keeps earlier.now stmt.now rule.G8 ≡ false → IfOk result (λ violation. IsSomeAnd violation (IsViolation earlier.now stmt.now rule.G8)) }
+    ensures { IfOk result (IsViolationIfBroken earlier.now stmt.now rule.G8) }
 {
     let Stmt::Disj(names) = stmt else {
         return Ok(None);
@@ -210,7 +331,7 @@ fn untyped_violation(
     earlier: &[Stmt],
     stmt: &Stmt,
 ) -> Result<Option<RuleViolation>, AllocError>
-    ensures { keeps earlier.now stmt.now rule.G9 ≡ false → IfOk result (λ violation. IsSomeAnd violation (IsViolation earlier.now stmt.now rule.G9)) }
+    ensures { IfOk result (IsViolationIfBroken earlier.now stmt.now rule.G9) }
 {
     match stmt {
         Stmt::Ess { expr, .. } => faulty_symbol(alloc, earlier, expr, SymbolFault::Untyped),
@@ -220,12 +341,12 @@ fn untyped_violation(
     }
 }
 
-/// Returns the position, from 1, of the last `${` that no statement closes, or `None` if there is
-/// none.
+/// Returns the position, from 1, of the last `${` that no statement closes, or `None` exactly if
+/// there is none.
 ///
 /// Cost: the number of statements from that `${` to the end, or of all if there is none.
 pub fn find_unclosed_block(statements: &[Stmt]) -> Option<usize>
-    ensures { IfSome result (λ i. IsActiveAt statements.now i is_open) }
+    ensures { MatchOption result (list_any (λ p. is_open p.1) (active statements.now) ≡ false) (λ i. IsLastActiveAt statements.now i is_open) }
 {
     let mut closed_later = 0usize;
     for i in (0..statements.len()).rev() {

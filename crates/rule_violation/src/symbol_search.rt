@@ -126,13 +126,15 @@ pub(crate) fn is_known_symbol(earlier: &[Stmt], name: &[u8]) -> bool
     is_constant(earlier, name) || is_variable(earlier, name)
 }
 
-fn is_constant(earlier: &[Stmt], name: &[u8]) -> bool
+/// Returns whether an earlier `$c` declares the name.
+pub(crate) fn is_constant(earlier: &[Stmt], name: &[u8]) -> bool
     ensures { result ≡ is_constant earlier.now name.now }
 {
     find_earlier(earlier, NameRole::DeclaredConstant, name).is_some()
 }
 
-fn is_variable(earlier: &[Stmt], name: &[u8]) -> bool
+/// Returns whether an active `$v` declares the name.
+pub(crate) fn is_variable(earlier: &[Stmt], name: &[u8]) -> bool
     ensures { result ≡ is_variable earlier.now name.now }
 {
     find_active(earlier, NameRole::DeclaredVariable, name).is_some()

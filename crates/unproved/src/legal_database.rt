@@ -42,15 +42,15 @@ impl Model for LegalDatabase {
 }
 
 impl LegalDatabase {
-    /// Makes a `LegalDatabase` of these statements, or returns `None` if one of them is not legal
-    /// or a block is open at the end. Clause `same` says that the value has these statements; that
-    /// they are legal is part of the invariant.
+    /// Makes a `LegalDatabase` of these statements, or returns `None` exactly if they are not legal
+    /// (`AllLegal`): one of them breaks a rule, or a block is open at the end.
     ///
     /// Errors: an allocation fails. Cost: the size of the statements.
     /// Source: Metamath, chapter 4.
     pub fn new(alloc: Global, statements: Vec<Stmt>) -> Result<Option<LegalDatabase>, AllocError>
         requires { AreShaped statements.items }
         ensures same { IfOk result (λ made. IfSome made (λ value. value ≡ statements.items)) }
+        ensures legal { IfOk result (λ made. IfSome made (λ value. AllLegal statements.items)) }
         ensures broken { result ≡ Ok None → ¬ AllLegal statements.items }
     {
         let mut rules = Rules::new(alloc);

@@ -1,5 +1,5 @@
 //! Checkers that are reused from text to text.
-ghost use Rattle.std.specs.Prelude.{◌≤◌, vec_len, OnOk};
+ghost use Rattle.std.specs.Prelude.{◌≡◌, ◌≤◌, ◌-◌, ◌^◌, false, true, vec_len, OnOk};
 
 use std::alloc::{AllocError, Global};
 use verify::Checker;
@@ -52,11 +52,8 @@ impl Checkers {
 
     /// Sets whether the checker of the calling thread takes heavy proofs.
     pub(crate) fn admit_heavy(&mut self, are_admitted: bool) {
-        self.calling.set_symbol_limit(if are_admitted {
-            usize::MAX
-        } else {
-            MAX_WORKER_SYMBOLS
-        });
+        self.calling
+            .set_symbol_limit(calling_symbol_limit(are_admitted));
     }
 
     /// Frees memory that large proofs needed, as `Checker::shrink` does.
@@ -91,5 +88,18 @@ impl Checkers {
             })?;
         }
         Ok(())
+    }
+}
+
+/// Returns the largest number of symbols that the buffer of results of the calling thread's checker
+/// holds: without a limit if heavy proofs are admitted, else that of a worker.
+fn calling_symbol_limit(are_admitted: bool) -> usize
+    ensures heavy { are_admitted ≡ true → result ≡ 2 ^ 64 - 1 }
+    ensures light { are_admitted ≡ false → result ≡ 2 ^ 20 }
+{
+    if are_admitted {
+        usize::MAX
+    } else {
+        MAX_WORKER_SYMBOLS
     }
 }
