@@ -1,3 +1,5 @@
 pub mod Words
 pub mod LabelsLemmas
 pub mod ExtractLemmas
+pub mod ParallelLemmas
+pub mod SameLemmas

@@ -1,7 +1,7 @@
 -- Re-exports of the definitions and lemmas with which this crate is proved.
-pub use Rattle.database_parts.proofs.ParallelLemmas.{part-whole}
-pub use Rattle.database_parts.specs.Parts.{HasSameAssertion, IsPartOf}
-pub use Rattle.database_parts.specs.Walk.{HaveSameListedAssertions, is_listed_assertion}
+pub use Rattle.extract.proofs.ParallelLemmas.{part-whole}
+pub use Rattle.extract.specs.Parts.{HasSameAssertion, IsPartOf}
+pub use Rattle.extract.specs.Walk.{HaveSameListedAssertions, is_listed_assertion}
 pub use Rattle.extract.specs.Extract.{IsExtract}
 pub use Rattle.extract.specs.Labels.{AreValidLabels, IsFirstLabelFault, IsValidLabel, IsLabelFault, NamesAssertion, NamesHypothesis}
 pub use Rattle.extract.specs.declared.fault.ExtractFault.{ExtractFault}

@@ -9,7 +9,7 @@ use Rattle.mm_read.specs.Statements.{Database}
 use Rattle.mm_read.specs.Export.{export_of}
 use Rattle.mm_read.specs.Reads.{Reads}
 use Rattle.library.specs.Good.{Good}
-use Rattle.database_parts.specs.Parts.{IsPartOf, HasSameAssertion}
+use Rattle.extract.specs.Parts.{IsPartOf, HasSameAssertion}
 
 -- T is a part of S, is good, and has each of these assertions as in S
 pub record AreExtract (S : Database) (labels : List Name) (T : Database) : Type 0 where

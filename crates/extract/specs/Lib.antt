@@ -1,2 +1,4 @@
 pub mod Labels
 pub mod Extract
+pub mod Parts
+pub mod Walk

@@ -5,10 +5,10 @@ ghost use Rattle.extract.specs.Labels.{AreValidLabels, IsFirstLabelFault};
 ghost use Rattle.extract.specs.Extract.{AreExtract, IsExtract};
 
 use crate::choice::choose;
+use crate::comparison::is_confirmed_part;
 use crate::fault::ExtractFault;
 use crate::labels::first_label_fault;
 use bytes::Bytes;
-use database_parts::is_confirmed_part;
 use library::{Entry, Library, Submission};
 use mm_read::push_line;
 use std::alloc::{AllocError, Global};

@@ -7,7 +7,7 @@ ghost use Rattle.extract.specs.declared.fault.ExtractFault.{ExtractFault as Faul
 ghost use Rattle.extract.specs.Labels.{AreValidLabels, IsFirstLabelFault, IsLabelResult};
 
 use crate::fault::ExtractFault;
-use database_parts::is_among;
+use crate::label_search::is_among;
 use frame::{Frames, is_assertion};
 use mm_read::Stmt;
 

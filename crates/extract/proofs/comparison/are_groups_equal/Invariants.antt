@@ -1,5 +1,5 @@
 use Rattle.std.proofs.Common.{◌≡◌, take}
-use Rattle.database_parts.proofs.comparison.are_groups_equal.Given as goal
+use Rattle.extract.proofs.comparison.are_groups_equal.Given as goal
 
 abbrev pub invariant-loop-index : goal.invariant-loop-index
 invariant-loop-index l = take l.index l.left ≡ take l.index l.right

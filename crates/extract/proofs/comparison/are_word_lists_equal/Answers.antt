@@ -1,6 +1,6 @@
 use Rattle.std.proofs.Common.{rules, ◌≡◌, true, sym, ◌∙◌}
-use Rattle.database_parts.proofs.SameLemmas.{same-words}
-use Rattle.database_parts.proofs.comparison.are_word_lists_equal.Goals as goal
+use Rattle.extract.proofs.SameLemmas.{same-words}
+use Rattle.extract.proofs.comparison.are_word_lists_equal.Goals as goal
 
 pub returns : goal.returns
 returns c =

@@ -1,6 +1,6 @@
 use Rattle.std.proofs.Common.{◌∙◌, sym, map}
-use Rattle.database_parts.proofs.ParallelLemmas.{ok-one, ok-both, walk-past, walk-both}
-use Rattle.database_parts.proofs.comparison.advance.Goals as goal
+use Rattle.extract.proofs.ParallelLemmas.{ok-one, ok-both, walk-past, walk-both}
+use Rattle.extract.proofs.comparison.advance.Goals as goal
 
 pub returns-else-listed : goal.returns-else-listed
 returns-else-listed c =

@@ -11,8 +11,8 @@ use Rattle.scope.specs.Active.{bare, bares, before, stmt_at, is_assertion}
 use Rattle.frame.specs.Citations.{Carries}
 use Rattle.frame.specs.FrameOf.{hypotheses, mandatory_groups, together}
 use Rattle.frame.proofs.GroupsLemmas.{groups-pairs}
-use Rattle.database_parts.specs.Parts.{IsPartOf, nothing, keeps, skips, HasSameAssertion}
-use Rattle.database_parts.specs.Walk.{is_listed_assertion, HaveSameListedAssertions, IsSameFrame, IsWalked}
+use Rattle.extract.specs.Parts.{IsPartOf, nothing, keeps, skips, HasSameAssertion}
+use Rattle.extract.specs.Walk.{is_listed_assertion, HaveSameListedAssertions, IsSameFrame, IsWalked}
 
 -- ---- the property of an answer
 

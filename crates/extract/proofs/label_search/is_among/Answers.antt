@@ -1,6 +1,6 @@
 use Rattle.std.proofs.Common.{sym, ◌∙◌}
-use Rattle.database_parts.proofs.SameLemmas.{among-here}
-use Rattle.database_parts.proofs.labels.is_among.Goals as goal
+use Rattle.extract.proofs.SameLemmas.{among-here}
+use Rattle.extract.proofs.label_search.is_among.Goals as goal
 
 pub returns-then-equals_bytes : goal.returns-then-equals_bytes
 returns-then-equals_bytes c =

@@ -10,7 +10,7 @@ use Rattle.mm_read.specs.Statements.{Database}
 use Rattle.scope.specs.Active.{bares, stmt_at}
 use Rattle.frame.specs.Citations.{Carries}
 use Rattle.frame.specs.FrameOf.{hypotheses, mandatory_groups}
-use Rattle.database_parts.specs.Parts.{IsPartOf, HasSameAssertion}
+use Rattle.extract.specs.Parts.{IsPartOf, HasSameAssertion}
 
 -- the statement is an assertion with one of these labels
 abbrev pub is_listed_assertion : List Name → Stmt → Bool

@@ -2,10 +2,10 @@
 ghost use Rattle.std.specs.Prelude.{◌≡◌, ℕ, ◌+◌, ◌<◌, ◌∷◌, ◌++◌, [], map, length, true, IsTrue, IfOk, Some, slice_get};
 ghost use Rattle.mm_read.specs.Statements.{IsShaped, AreShaped};
 ghost use Rattle.scope.specs.Active.{bare, is_assertion, stmt_at};
-ghost use Rattle.database_parts.specs.Parts.{IsPartOf};
-ghost use Rattle.database_parts.specs.Walk.{is_listed_assertion, HaveSameListedAssertions, IsSameFrame, IsWalked};
+ghost use Rattle.extract.specs.Parts.{IsPartOf};
+ghost use Rattle.extract.specs.Walk.{is_listed_assertion, HaveSameListedAssertions, IsSameFrame, IsWalked};
 
-use crate::labels::is_among;
+use crate::label_search::is_among;
 use frame::{Frame, frame};
 use mm_lex::{Word, Words};
 use mm_read::Stmt;

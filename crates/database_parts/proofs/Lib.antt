@@ -1,2 +1,0 @@
-pub mod ParallelLemmas
-pub mod SameLemmas
