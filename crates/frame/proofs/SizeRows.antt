@@ -53,7 +53,7 @@ in_order = refl
 -- ---- disjointness
 
 -- a variable that occurs twice counts once, and a constant does not count
-once : variables_in row_seven (w (codes "x R z x")) ≡ w (codes "z x")
+once : variables_in row_seven (w (codes "x R z x")) ≡ w (codes "x z")
 once = refl
 
 abbrev with_images : String → String → Images

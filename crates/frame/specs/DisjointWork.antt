@@ -8,10 +8,15 @@ use Rattle.frame.specs.FrameOf.{is_mandatory_pair}
 use Rattle.frame.specs.Substitution.{Images, image}
 use Rattle.frame.specs.Sizes.{row, mandatory_variables}
 
--- the variables of an expression after the statements S, each once
+-- the variables of an expression after the statements S, other than those met, each once
+abbrev pub new_variables : Database → List Name → Expr → List Name
+new_variables S met [] = []
+new_variables S met (x ∷ e) =
+    if is_variable S x && not (has_name x met) then x ∷ new_variables S (x ∷ met) e else new_variables S met e
+
+-- the variables of an expression, each once
 abbrev pub variables_in : Database → Expr → List Name
-variables_in S [] = []
-variables_in S (x ∷ e) = if is_variable S x && not (has_name x e) then x ∷ variables_in S e else variables_in S e
+variables_in S e = new_variables S [] e
 
 -- the variable has a mandatory pair with one of these
 abbrev pub has_pair : Database → Stmt → List Name → Name → Bool
