@@ -1,0 +1,102 @@
+-- The mentions of a number: one is added, the first ones alone, and the positions from one down.
+use Rattle.entries.proofs.Words.{◌≡◌, ◌⊎◌, inl, inr, ℕ, zero, suc, ◌-◌, ◌<◌, ◌≤◌, Bool, true, false, nat_eq, cond, List, [], ◌∷◌, ◌++◌, length, take, get_or, slice_get, slice_set, Some, refl, ◌∙◌, ap, sym, arith, append-nil, append_assoc, get_or-append_seam, get_or-set_at, get_or-set_other, get_or-take, length-append, length-take-le, take-append_seam, IsNonDecreasingBy-take, IsNonDecreasingBy-push}
+use Rattle.std.proofs.Common.{filter}
+use Rattle.entries.proofs.BufferPlaceLemmas.{get-push, take-get}
+use Rattle.entries.proofs.StatementRecordLemmas.{get-last}
+use Rattle.entries.specs.declared.mentions.Mention.{Mention}
+use Rattle.entries.specs.Mentions.{AreMentions, AreWith, IsUntil, mentions_of, positions_of, stack_after, stack_of, stacks_after}
+
+-- ---- the positions from a mention down
+
+after-take : (n : ℕ) (done : List (List ℕ)) (ms : List Mention) → stacks_after done (take n ms) ≡ take n (stacks_after done ms)
+after-take zero done ms = refl
+after-take (suc n) done [] = refl
+after-take (suc n) done (m ∷ ms) = ap (λ r. stack_of done m ∷ r) (after-take n (done ++ stack_of done m ∷ []) ms)
+
+after-length : (done : List (List ℕ)) (ms : List Mention) → length (stacks_after done ms) ≡ length ms
+after-length done [] = refl
+after-length done (m ∷ ms) = ap suc (after-length (done ++ stack_of done m ∷ []) ms)
+
+after-push : (done : List (List ℕ)) (ms : List Mention) (m : Mention) → stacks_after done (ms ++ m ∷ []) ≡ stacks_after done ms ++ stack_of (done ++ stacks_after done ms) m ∷ []
+after-push done [] m = ap (λ d. stack_of d m ∷ []) (sym (append-nil done))
+after-push done (u ∷ ms) m =
+    let x = stack_of done u in
+    ap (λ r. x ∷ r) (after-push (done ++ x ∷ []) ms m ∙ ap (λ d. stacks_after (done ++ x ∷ []) ms ++ stack_of d m ∷ []) (append_assoc done (x ∷ []) (stacks_after (done ++ x ∷ []) ms)))
+
+after-fewer : (n m : ℕ) (V : List (List ℕ)) → n ≤ m → stack_after n (take m V) ≡ stack_after n V
+after-fewer zero m V le = refl
+after-fewer (suc i) m V le = get_or-take m V i [] (omega (arith, le))
+
+-- from the last mention down: its position, and those from the mention that it leads to
+pub positions-push : (ms : List Mention) (m : Mention) → m.beneath ≤ length ms → positions_of (ms ++ m ∷ []) ≡ m.position ∷ positions_of (take m.beneath ms)
+positions-push ms m le =
+    let V = stacks_after [] ms in
+    let size : length (ms ++ m ∷ []) ≡ suc (length V) = omega (arith, length-append ms (m ∷ []), after-length [] ms) in
+    let few : length (take m.beneath ms) ≡ m.beneath = length-take-le m.beneath ms le in
+    let below : positions_of (take m.beneath ms) ≡ stack_after m.beneath V =
+    ap (λ n. stack_after n (stacks_after [] (take m.beneath ms))) few
+    ∙ (ap (stack_after m.beneath) (after-take m.beneath [] ms) ∙ after-fewer m.beneath m.beneath V (omega arith)) in
+    ap (λ n. stack_after n (stacks_after [] (ms ++ m ∷ []))) size
+    ∙ (ap (λ W. get_or W (length V) []) (after-push [] ms m)
+    ∙ (get_or-append_seam V (stack_of V m) [] [] ∙ ap (λ s. m.position ∷ s) (sym below)))
+
+-- ---- the first mentions, and one more
+
+pub mentions-front : (ms : List Mention) (n : ℕ) → AreMentions ms → AreMentions (take n ms)
+mentions-front ms n are = record {
+  linked = λ i m got. are.linked i m (take-get n i ms m got).1;
+  ordered = IsNonDecreasingBy-take (λ m. m.position) n ms are.ordered;
+}
+
+until-at : (ms : List Mention) (i : ℕ) (d : Mention) (at : ℕ) → IsUntil at ms → i < length ms → (get_or ms i d).position ≤ at
+until-at [] i d at until lt = absurd (omega arith)
+until-at (m ∷ ms) zero d at until lt = until.0
+until-at (m ∷ ms) (suc i) d at until lt = until-at ms i d at until.1 (omega (arith, lt))
+
+pub mentions-more : (ms : List Mention) (m : Mention) → AreMentions ms → m.beneath ≤ length ms → IsUntil m.position ms → AreMentions (ms ++ m ∷ [])
+mentions-more ms m are le until = record {
+  linked = λ i u got. by i u (get-push ms m u i got);
+  ordered = IsNonDecreasingBy-push (λ u. u.position) ms m are.ordered (λ d some. until-at ms (length ms - 1) d m.position until (omega (arith, some)));
+}
+  where
+    by : (i : ℕ) (u : Mention) → ((i < length ms) × (slice_get ms i ≡ Some u)) ⊎ ((i ≡ length ms) × (m ≡ u)) → u.beneath ≤ i
+    by i u (inl old) = are.linked i u old.1
+    by i u (inr new) = let is : m.beneath ≡ u.beneath = ap (λ (v : Mention). v.beneath) new.1 in omega (arith, le, is, new.0)
+
+-- ---- the last mention, and those before it
+
+pub last-is : (xs front : List Mention) (m : Mention) → xs ≡ front ++ m ∷ [] → slice_get xs (length xs - 1) ≡ Some m
+last-is xs front m is =
+    ap (slice_get xs) (omega (arith, ap length is, length-append front (m ∷ []))) ∙ (ap (λ l. slice_get l (length front)) is ∙ get-last front m)
+
+pub front-is : (xs front : List Mention) (m : Mention) (n : ℕ) → xs ≡ front ++ m ∷ [] → n ≡ length xs → take (n - 1) xs ≡ front
+front-is xs front m n is size =
+    ap (λ k. take k xs) (omega (arith, size, ap length is, length-append front (m ∷ []))) ∙ (ap (take (length front)) is ∙ take-append_seam front (m ∷ []))
+
+-- ---- those that pass a test are the first ones
+
+pub filter-front : {X : Type 0} (p : X → Bool) (xs : List X) (n : ℕ) → n ≤ length xs → ((k : ℕ) (d : X) → k < n → p (get_or xs k d) ≡ true) → ((k : ℕ) (d : X) → n ≤ k → k < length xs → p (get_or xs k d) ≡ false)
+    → filter p xs ≡ take n xs
+filter-front p [] zero le low high = refl
+filter-front p [] (suc n) le low high = refl
+filter-front p (x ∷ xs) zero le low high =
+    ap (λ b. cond b (x ∷ filter p xs) (filter p xs)) (high 0 x (omega arith) (omega arith))
+    ∙ filter-front p xs zero (omega arith) (λ k d lt. absurd (omega (arith, lt))) (λ k d ge lt. high (suc k) d (omega arith) (omega (arith, lt)))
+filter-front p (x ∷ xs) (suc n) le low high =
+    ap (λ b. cond b (x ∷ filter p xs) (filter p xs)) (low 0 x (omega arith))
+    ∙ ap (λ r. x ∷ r) (filter-front p xs n (omega (arith, le)) (λ k d lt. low (suc k) d (omega (arith, lt))) (λ k d ge lt. high (suc k) d (omega (arith, ge)) (omega (arith, lt))))
+
+-- ---- the mentions of one number of the table
+
+pub set-with : (lists : List (List Mention)) (i : ℕ) (ms : List Mention) → i < length lists → AreWith lists i ms (slice_set lists i ms)
+set-with lists i ms lt d = by (nat_eq d i) refl
+  where
+    by : (b : Bool) → nat_eq d i ≡ b → mentions_of (slice_set lists i ms) d ≡ cond b ms (mentions_of lists d)
+    by true e = get_or-set_at lists i d ms [] (grind (arith, e)) lt
+    by false e = get_or-set_other lists i d ms [] (λ h. let is : nat_eq i i ≡ true = grind arith in cc)
+
+pub wider-same : (lists : List (List Mention)) (d : ℕ) → mentions_of (lists ++ [] ∷ []) d ≡ mentions_of lists d
+wider-same [] zero = refl
+wider-same [] (suc d) = refl
+wider-same (l ∷ lists) zero = refl
+wider-same (l ∷ lists) (suc d) = wider-same lists d
