@@ -1,10 +1,10 @@
 -- The mentions of a number: one is added, the first ones alone, and the positions from one down.
-use Rattle.entries.proofs.Words.{◌≡◌, ◌⊎◌, inl, inr, ℕ, zero, suc, ◌-◌, ◌<◌, ◌≤◌, Bool, true, false, nat_eq, cond, List, [], ◌∷◌, ◌++◌, length, take, get_or, slice_get, slice_set, Some, refl, ◌∙◌, ap, sym, arith, append-nil, append_assoc, get_or-append_seam, get_or-set_at, get_or-set_other, get_or-take, length-append, length-take-le, take-append_seam, IsNonDecreasingBy-take, IsNonDecreasingBy-push}
+use Rattle.entries.proofs.Words.{nat_lt, ltb-true, lt-ltb, same_Some, ◌≡◌, ◌⊎◌, inl, inr, ℕ, zero, suc, ◌-◌, ◌<◌, ◌≤◌, Bool, true, false, nat_eq, cond, List, [], ◌∷◌, ◌++◌, length, take, get_or, slice_get, slice_set, Some, refl, ◌∙◌, ap, sym, arith, append-nil, append_assoc, get_or-append_seam, get_or-set_at, get_or-set_other, get_or-take, length-append, length-take-le, take-append_seam, IsNonDecreasingBy-take, IsNonDecreasingBy-push}
 use Rattle.std.proofs.Common.{filter}
 use Rattle.entries.proofs.BufferPlaceLemmas.{get-push, take-get}
 use Rattle.entries.proofs.StatementRecordLemmas.{get-last}
 use Rattle.entries.specs.declared.mentions.Mention.{Mention}
-use Rattle.entries.specs.Mentions.{AreMentions, AreWith, IsUntil, mentions_of, positions_of, stack_after, stack_of, stacks_after}
+use Rattle.entries.specs.Mentions.{AreMentions, AreWith, IsUntil, before, mentions_of, positions_of, stack_after, stack_of, stacks_after}
 
 -- ---- the positions from a mention down
 
@@ -100,3 +100,26 @@ wider-same [] zero = refl
 wider-same [] (suc d) = refl
 wider-same (l ∷ lists) zero = refl
 wider-same (l ∷ lists) (suc d) = wider-same lists d
+
+-- ---- the mentions before a position
+
+pub before-below : (ms : List Mention) (at i : ℕ) (m : Mention) → slice_get (before at ms) i ≡ Some m → m.position < at
+before-below [] at i m got = cc
+before-below (u ∷ ms) at i m got = by (nat_lt u.position at) refl i (λ j. before-below ms at j m) got
+  where
+    by : (b : Bool) → nat_lt u.position at ≡ b → (i : ℕ) → ((j : ℕ) → slice_get (before at ms) j ≡ Some m → m.position < at) → slice_get (cond b (u ∷ before at ms) (before at ms)) i ≡ Some m → m.position < at
+    by true e zero rest g = let same : u ≡ m = same_Some u m g in let here = ltb-true u.position at e in omega (arith, here, ap (λ (v : Mention). v.position) same)
+    by true e (suc j) rest g = rest j g
+    by false e j rest g = rest j g
+
+pub before-has : (ms : List Mention) (at i : ℕ) (m : Mention) → slice_get ms i ≡ Some m → m.position < at → (j : ℕ) × (slice_get (before at ms) j ≡ Some m)
+before-has [] at i m got lt = absurd (cc)
+before-has (u ∷ ms) at zero m got lt =
+    let same : u ≡ m = same_Some u m got in
+    let here : nat_lt u.position at ≡ true = ap (λ (v : Mention). nat_lt v.position at) same ∙ lt-ltb m.position at lt in
+    (0, ap (λ b. slice_get (cond b (u ∷ before at ms) (before at ms)) 0) here ∙ ap Some same)
+before-has (u ∷ ms) at (suc i) m got lt = by (nat_lt u.position at) (before-has ms at i m got lt)
+  where
+    by : (b : Bool) → (j : ℕ) × (slice_get (before at ms) j ≡ Some m) → (j : ℕ) × (slice_get (cond b (u ∷ before at ms) (before at ms)) j ≡ Some m)
+    by true r = (suc r.0, r.1)
+    by false r = r

@@ -2,7 +2,7 @@
 -- Metamath, 4.2.8: blocks nest, so all that was active beneath an active statement is still active.
 -- The code walks from the last mention before a position down over those that are closed; all
 -- beneath the first active one are active.
-use Rattle.std.specs.Prelude.{◌≡◌, ℕ, zero, suc, ◌≤◌, ◌==◌, Bool, nat_lt, nat_le, if◌then◌else◌, List, [], ◌∷◌, ◌++◌, length, filter, get_or, slice_get, Some}
+use Rattle.std.specs.Prelude.{◌≡◌, ℕ, zero, suc, ◌<◌, ◌≤◌, ◌==◌, Bool, nat_lt, nat_le, if◌then◌else◌, List, [], ◌∷◌, ◌++◌, length, take, filter, get_or, slice_get, Some}
 use Rattle.std.specs.List.Sorted.{IsNonDecreasingBy}
 use Rattle.entries.specs.declared.mentions.Mention.{Mention}
 
@@ -32,6 +32,10 @@ pub record AreMentions (ms : List Mention) : Type 0 where
 -- m is the last mention
 abbrev pub IsLast : List Mention → Mention → Type 0
 IsLast ms m = (front : List Mention) × (ms ≡ front ++ m ∷ [])
+
+-- the first ones, not all
+abbrev pub IsFront : List Mention → List Mention → Type 0
+IsFront old new = (n : ℕ) × (n < length old) × (new ≡ take n old)
 
 -- no mention is after `at`
 abbrev pub IsUntil : ℕ → List Mention → Type 0

@@ -1,7 +1,7 @@
 //! For each number, the statements that mention it, each with the mention that was active beneath
 //! it.
 ghost use Rattle.std.specs.Prelude.{◌≡◌, ℕ, ◌≤◌, ◌<◌, ◌++◌, ◌∷◌, [], length, take, IsTrue, IfSome, IfNone, OnOk, OnErr};
-ghost use Rattle.entries.specs.Mentions.{AreKeptUntil, AreSame, AreUntil, AreWith, IsLast, IsPoppedAfter, IsUntil, before, mentions_of, positions_of};
+ghost use Rattle.entries.specs.Mentions.{AreKeptUntil, AreSame, AreUntil, AreWith, IsFront, IsLast, IsPoppedAfter, IsUntil, before, mentions_of, positions_of};
 
 use crate::room::give_back;
 use std::alloc::{AllocError, Global};
@@ -83,7 +83,8 @@ impl MentionList {
     ///
     /// Cost: a binary search.
     fn before(&self, at: usize) -> MentionStack<'_>
-        ensures { result ≡ before at self.now }
+        ensures before { result ≡ before at self.now }
+        ensures front { (n : ℕ) × (result ≡ take n self.now) }
     {
         let count = self
             .mentions
@@ -143,7 +144,7 @@ impl<'a> MentionStack<'a> {
     /// Cost: a constant.
     pub fn pop(&mut self) -> Option<u32>
         ensures some { IfSome result (λ p. positions_of self.old ≡ p ∷ positions_of self.new) }
-        ensures front { (n : ℕ) × (self.new ≡ take n self.old) }
+        ensures front { IfSome result (λ p. IsFront self.old self.new) }
         ensures none { IfNone result ((self.old ≡ []) × (self.new ≡ [])) }
     {
         let last = self.last()?;
@@ -225,7 +226,8 @@ impl Mentions {
     ///
     /// Cost: a binary search.
     pub fn stack(&self, number: u32, at: usize) -> MentionStack<'_>
-        ensures { result ≡ before at (mentions_of self.now number) }
+        ensures before { result ≡ before at (mentions_of self.now number) }
+        ensures front { (n : ℕ) × (result ≡ take n (mentions_of self.now number)) }
     {
         match self.lists.get(number as usize) {
             Some(list) => list.before(at),

@@ -13,6 +13,7 @@ pub mod CollectLemmas
 pub mod KindWalk
 pub mod StackLemmas
 pub mod BackLemmas
+pub mod MentionWalkLemmas
 pub mod PairStackLemmas
 pub mod PairsLemmas
 pub mod ActiveDisjointLemmas
