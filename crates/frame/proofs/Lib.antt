@@ -14,6 +14,7 @@ pub mod KindWalk
 pub mod StackLemmas
 pub mod BackLemmas
 pub mod MentionWalkLemmas
+pub mod MentionListLemmas
 pub mod PairStackLemmas
 pub mod PairsLemmas
 pub mod ActiveDisjointLemmas
