@@ -1,10 +1,11 @@
 -- The mentions of a number: one is added, the first ones alone, and the positions from one down.
-use Rattle.entries.proofs.Words.{nat_lt, ltb-true, lt-ltb, same_Some, ◌≡◌, ◌⊎◌, inl, inr, ℕ, zero, suc, ◌-◌, ◌<◌, ◌≤◌, Bool, true, false, nat_eq, cond, List, [], ◌∷◌, ◌++◌, length, take, get_or, slice_get, slice_set, Some, refl, ◌∙◌, ap, sym, arith, append-nil, append_assoc, get_or-append_seam, get_or-set_at, get_or-set_other, get_or-take, length-append, length-take-le, take-append_seam, IsNonDecreasingBy-take, IsNonDecreasingBy-push}
+use Rattle.entries.proofs.Words.{nat_le, le-leb, lt-leb, leb-false, IsNonDecreasingBy, nat_lt, ltb-true, lt-ltb, same_Some, ◌≡◌, ◌⊎◌, inl, inr, ℕ, zero, suc, ◌-◌, ◌<◌, ◌≤◌, Bool, true, false, nat_eq, cond, List, [], ◌∷◌, ◌++◌, length, take, get_or, slice_get, slice_set, Some, refl, ◌∙◌, ap, sym, arith, append-nil, append_assoc, get_or-append_seam, get_or-set_at, get_or-set_other, get_or-take, length-append, length-take-le, take-append_seam, IsNonDecreasingBy-take, IsNonDecreasingBy-push}
 use Rattle.std.proofs.Common.{filter}
+use Rattle.std.proofs.lemmas.Bool.{leb-true}
 use Rattle.entries.proofs.BufferPlaceLemmas.{get-push, take-get}
 use Rattle.entries.proofs.StatementRecordLemmas.{get-last}
 use Rattle.entries.specs.declared.mentions.Mention.{Mention}
-use Rattle.entries.specs.Mentions.{AreMentions, AreWith, IsUntil, before, mentions_of, positions_of, stack_after, stack_of, stacks_after}
+use Rattle.entries.specs.Mentions.{AreMentions, AreWith, IsUntil, before, kept_until, mentions_of, positions_of, stack_after, stack_of, stacks_after}
 
 -- ---- the positions from a mention down
 
@@ -121,5 +122,41 @@ before-has (u ∷ ms) at zero m got lt =
 before-has (u ∷ ms) at (suc i) m got lt = by (nat_lt u.position at) (before-has ms at i m got lt)
   where
     by : (b : Bool) → (j : ℕ) × (slice_get (before at ms) j ≡ Some m) → (j : ℕ) × (slice_get (cond b (u ∷ before at ms) (before at ms)) j ≡ Some m)
+    by true r = (suc r.0, r.1)
+    by false r = r
+
+-- the mentions up to a position are the first ones
+pub kept-first : (n : ℕ) (ms : List Mention) → IsNonDecreasingBy (λ m. m.position) ms → (k : ℕ) × (kept_until n ms ≡ take k ms)
+kept-first n [] up = (0, refl)
+kept-first n (m ∷ ms) up = by (nat_le m.position n) refl (kept-first n ms (λ i j d le lt. up (suc i) (suc j) d (omega (arith, le)) (omega (arith, lt))))
+  where
+    none : (us : List Mention) → ((i : ℕ) (d : Mention) → i < length us → m.position ≤ (get_or us i d).position) → n < m.position → kept_until n us ≡ []
+    none [] above late = refl
+    none (u ∷ us) above late =
+        let here = above 0 u (omega arith) in
+        ap (λ b. cond b (u ∷ kept_until n us) (kept_until n us)) (lt-leb u.position n (omega (arith, here, late))) ∙ none us (λ i d lt. above (suc i) d (omega (arith, lt))) late
+
+    by : (b : Bool) → nat_le m.position n ≡ b → (k : ℕ) × (kept_until n ms ≡ take k ms) → (k : ℕ) × (cond b (m ∷ kept_until n ms) (kept_until n ms) ≡ take k (m ∷ ms))
+    by true e r = (suc r.0, ap (λ l. m ∷ l) r.1)
+    by false e r = (0, none ms (λ i d lt. up 0 (suc i) d (omega arith) (omega (arith, lt))) (leb-false m.position n e))
+
+pub kept-below : (ms : List Mention) (n i : ℕ) (m : Mention) → slice_get (kept_until n ms) i ≡ Some m → m.position ≤ n
+kept-below [] n i m got = cc
+kept-below (u ∷ ms) n i m got = by (nat_le u.position n) refl i (λ j. kept-below ms n j m) got
+  where
+    by : (b : Bool) → nat_le u.position n ≡ b → (i : ℕ) → ((j : ℕ) → slice_get (kept_until n ms) j ≡ Some m → m.position ≤ n) → slice_get (cond b (u ∷ kept_until n ms) (kept_until n ms)) i ≡ Some m → m.position ≤ n
+    by true e zero rest g = let same : u ≡ m = same_Some u m g in let here = leb-true u.position n e in omega (arith, here, ap (λ (v : Mention). v.position) same)
+    by true e (suc j) rest g = rest j g
+    by false e j rest g = rest j g
+
+pub kept-has : (ms : List Mention) (n i : ℕ) (m : Mention) → slice_get ms i ≡ Some m → m.position ≤ n → (j : ℕ) × (slice_get (kept_until n ms) j ≡ Some m)
+kept-has [] n i m got le = absurd (cc)
+kept-has (u ∷ ms) n zero m got le =
+    let same : u ≡ m = same_Some u m got in
+    let here : nat_le u.position n ≡ true = ap (λ (v : Mention). nat_le v.position n) same ∙ le-leb m.position n le in
+    (0, ap (λ b. slice_get (cond b (u ∷ kept_until n ms) (kept_until n ms)) 0) here ∙ ap Some same)
+kept-has (u ∷ ms) n (suc i) m got le = by (nat_le u.position n) (kept-has ms n i m got le)
+  where
+    by : (b : Bool) → (j : ℕ) × (slice_get (kept_until n ms) j ≡ Some m) → (j : ℕ) × (slice_get (cond b (u ∷ kept_until n ms) (kept_until n ms)) j ≡ Some m)
     by true r = (suc r.0, r.1)
     by false r = r

@@ -1,9 +1,10 @@
--- The mentions of a symbol after a statement is appended.
-use Rattle.frame.proofs.Words.{◌≡◌, ◌∙◌, ap, sym, subst, arith, refl, inl, inr, ℕ, zero, suc, ◌+◌, ◌-◌, ◌<◌, ◌≤◌, ◌⊎◌, Bool, true, false, cond, nat_eq, List, [], ◌∷◌, ◌++◌, length, take, take_all, take-append-le, take-append_seam, append-nil, length-append, slice_get, slice_get_within, same_Some, Some, AreBelow, Stmt, Database, Entry, is_close, is_open, actives, has_code, positions_with, IsOfKind, get-last, get-more, get-push, list_any, option_symbols, cases_lt, having_after, length-take-le}
+-- The mentions of a symbol after a statement is appended, and of the first statements alone.
+use Rattle.frame.proofs.Words.{◌≡◌, ◌∙◌, ap, sym, subst, arith, refl, inl, inr, ℕ, zero, suc, ◌+◌, ◌-◌, ◌<◌, ◌≤◌, ◌⊎◌, Bool, true, false, cond, nat_eq, List, [], ◌∷◌, ◌++◌, length, take, take_all, take-append-le, take-append_seam, append-nil, length-append, slice_get, slice_get_within, same_Some, Some, AreBelow, Stmt, Database, Entry, is_close, is_open, actives, has_code, positions_with, IsOfKind, get-last, get-more, get-push, list_any, option_symbols, cases_lt, having_after, length-take-le, take-get, take-take}
+use Rattle.frame.proofs.BlockWalkLemmas.{get-take}
 use Rattle.frame.proofs.LastActiveLemmas.{actives-push}
 use Rattle.frame.proofs.MentionWalkLemmas.{tail-same}
-use Rattle.entries.proofs.MentionLemmas.{mentions-more}
-use Rattle.entries.specs.Mentions.{AreMentions, IsUntil, positions_of}
+use Rattle.entries.proofs.MentionLemmas.{kept-below, kept-first, kept-has, mentions-front, mentions-more}
+use Rattle.entries.specs.Mentions.{AreMentions, IsUntil, kept_until, positions_of}
 use Rattle.entries.specs.declared.mentions.Mention.{Mention}
 use Rattle.frame.proofs.StackLemmas.{AreIn, actives-in, positions_with-front, positions_with-push}
 use Rattle.frame.specs.Stored.MentionLists.{IsListOf, IsSound, IsTail}
@@ -141,3 +142,57 @@ module _ (kind : Stmt → Bool) (es : List Entry) (S : Database) (e : Entry) (s 
             (below-wider (length (take from S) + 1) m.position (positions_with es c (actives kind (take from S))) (omega (arith, place, low, length-take-le from S low)) (with-below kind es c (take from S)));
         leads = inr (subst (IsTail (positions_with es' c (actives kind (take m.position S')))) (sym (ap positions_of same ∙ beneath ∙ sym (ap (λ T. positions_with es' c (actives kind T)) all ∙ after))) (tail-same _));
       }
+
+-- ---- the first statements alone
+
+module _ (kind : Stmt → Bool) (es : List Entry) (S : Database) (c : ℕ) (list : List Mention) (is : IsListOf kind es S c list) (n : ℕ) (le : n ≤ length S) where
+  cut : (k : ℕ) × (kept_until n list ≡ take k list)
+  cut = kept-first n list is.mentions.ordered
+
+  code-first : (p : ℕ) → 1 ≤ p → p ≤ n → has_code (take n es) c p ≡ has_code es c p
+  code-first p one low = ap (λ o. list_any (λ x. nat_eq c x) (option_symbols o)) (get-take (p - 1) n es (omega (arith, one, low)))
+
+  kind-first : (p : ℕ) → IsOfKind kind (take n S) p → IsOfKind kind S p × (p ≤ n)
+  kind-first p o =
+      let g = take-get n (p - 1) S o.statement o.stands in
+      let lt = g.0 in
+      (record { one = o.one; statement = o.statement; stands = g.1; of_kind = o.of_kind }, omega (arith, lt))
+
+  with-first : (p : ℕ) → p ≤ n → positions_with (take n es) c (actives kind (take p (take n S))) ≡ positions_with es c (actives kind (take p S))
+  with-first p low = ap (λ T. positions_with (take n es) c (actives kind T)) (take-take p n S low) ∙ positions_with-front kind es c n p S low
+
+  sound-first : (i : ℕ) (m : Mention) → slice_get list i ≡ Some m → i < cut.0 → m.position ≤ n → IsSound kind (take n es) (take n S) c (kept_until n list) m
+  sound-first i m got lt low =
+      let a = is.sound i m got in
+      let one = a.one in
+      let linked = is.mentions.linked i m got in
+      let same : take m.beneath (kept_until n list) ≡ take m.beneath list = ap (take m.beneath) cut.1 ∙ take-take m.beneath cut.0 list (omega (arith, lt, linked)) in
+      record {
+        one = one;
+        within = omega (arith, low, length-take-le n S le);
+        has = λ o. code-first m.position one low ∙ a.has (kind-first m.position o).0;
+        lower = subst (λ l. AreBelow m.position (positions_of l)) (sym same) a.lower;
+        leads = subst (λ l. IsTail (positions_with (take n es) c (actives kind (take m.position (take n S)))) (m.position ∷ positions_of l)) (sym same)
+            (subst (λ xs. IsTail xs (m.position ∷ positions_of (take m.beneath list))) (sym (with-first m.position low)) a.leads);
+      }
+
+  pub list-front : IsListOf kind (take n es) (take n S) c (kept_until n list)
+  list-front = record {
+    mentions = subst AreMentions (sym cut.1) (mentions-front list cut.0 is.mentions);
+    sound = λ i m got.
+        let g = take-get cut.0 i list m (ap (λ l. slice_get l i) (sym cut.1) ∙ got) in
+        sound-first i m g.1 g.0 (kept-below list n i m got);
+    complete = λ p o has.
+        let f = kind-first p o in
+        let r = is.complete p f.0 (sym (code-first p o.one f.1) ∙ has) in
+        let k = kept-has list n r.0 r.1 r.2 (let e = r.3 in let low = f.1 in omega (arith, e, low)) in
+        (k.0, r.1, k.1, r.3);
+  }
+
+-- no statements
+pub list-none : (kind : Stmt → Bool) (c : ℕ) → IsListOf kind [] [] c []
+list-none kind c = record {
+  mentions = record { linked = λ i m got. cc; ordered = λ i j d le lt. absurd (omega (arith, lt)) };
+  sound = λ i m got. cc;
+  complete = λ p o has. let g = o.stands in cc;
+}
