@@ -6,3 +6,5 @@ pub mod AddedStatement
 pub mod VersionLemmas
 pub mod LogLemmas
 pub mod HistoryLemmas
+pub mod MentionLemmas
+pub mod MentionLogLemmas

@@ -1,4 +1,5 @@
 pub mod Hypotheses
 pub mod Entries
 pub mod Histories
+pub mod Mentions
 pub mod Stored

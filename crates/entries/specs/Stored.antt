@@ -3,3 +3,4 @@
 pub mod Spans
 pub mod Records
 pub mod Versions
+pub mod MentionLog

@@ -13,6 +13,8 @@ pub mod CollectLemmas
 pub mod KindWalk
 pub mod StackLemmas
 pub mod BackLemmas
+pub mod MentionWalkLemmas
+pub mod MentionListLemmas
 pub mod PairStackLemmas
 pub mod PairsLemmas
 pub mod ActiveDisjointLemmas

@@ -20,6 +20,7 @@ mod at_position;
 mod declare;
 mod disjoints_with;
 mod extend;
+mod first_active;
 mod frame_buffers;
 mod frames;
 mod laws;
