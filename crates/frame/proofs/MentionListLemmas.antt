@@ -1,13 +1,13 @@
 -- The mentions of a symbol after a statement is appended, and of the first statements alone.
-use Rattle.frame.proofs.Words.{◌≡◌, ◌∙◌, ap, sym, subst, arith, refl, inl, inr, ℕ, zero, suc, ◌+◌, ◌-◌, ◌<◌, ◌≤◌, ◌⊎◌, Bool, true, false, cond, nat_eq, List, [], ◌∷◌, ◌++◌, length, take, take_all, take-append-le, take-append_seam, append-nil, length-append, slice_get, slice_get_within, same_Some, Some, AreBelow, Stmt, Database, Entry, is_close, is_open, actives, has_code, positions_with, IsOfKind, get-last, get-more, get-push, list_any, option_symbols, cases_lt, having_after, length-take-le, take-get, take-take}
+use Rattle.frame.proofs.Words.{◌≡◌, ◌∙◌, ap, sym, subst, arith, refl, inl, inr, ℕ, zero, suc, ◌+◌, ◌-◌, ◌<◌, ◌≤◌, ◌⊎◌, Bool, true, false, cond, nat_eq, List, [], ◌∷◌, ◌++◌, length, take, take_all, take-append-le, take-append_seam, length-append, slice_get, slice_get_within, same_Some, Some, AreBelow, Stmt, Database, Entry, is_close, actives, has_code, positions_with, IsOfKind, get-last, get-more, get-push, list_any, option_symbols, cases_lt, having_after, length-take-le, take-get, take-take}
 use Rattle.frame.proofs.BlockWalkLemmas.{get-take}
 use Rattle.frame.proofs.LastActiveLemmas.{actives-push}
 use Rattle.frame.proofs.MentionWalkLemmas.{tail-same}
 use Rattle.entries.proofs.MentionLemmas.{kept-below, kept-first, kept-has, mentions-front, mentions-more}
 use Rattle.entries.specs.Mentions.{AreMentions, IsUntil, kept_until, positions_of}
 use Rattle.entries.specs.declared.mentions.Mention.{Mention}
-use Rattle.frame.proofs.StackLemmas.{AreIn, actives-in, positions_with-front, positions_with-push}
-use Rattle.frame.specs.Stored.MentionLists.{IsListOf, IsSound, IsTail}
+use Rattle.frame.proofs.PositionsWith.{AreIn, actives-in, positions_with-front, positions_with-push}
+use Rattle.frame.specs.Stored.MentionLists.{IsListOf, IsMentionedAt, IsSound, IsTail}
 
 below-wider : (n m : ℕ) (xs : List ℕ) → n ≤ m → AreBelow n xs → AreBelow m xs
 below-wider n m [] le h = tt
@@ -55,63 +55,41 @@ module _ (kind : Stmt → Bool) (es : List Entry) (S : Database) (e : Entry) (s 
       ap (λ T. positions_with es' c (actives kind T)) (take-append-le p S (s ∷ []) le)
       ∙ (sym (positions_with-front kind es' c (length es) p S (omega (arith, le, size))) ∙ ap (λ fs. positions_with fs c (actives kind (take p S))) (take-append_seam es (e ∷ [])))
 
-  sound-as : (more : List Mention) (m : Mention) → m.beneath ≤ length list → IsSound kind es S c list m → IsSound kind es' S' c (list ++ more) m
-  sound-as more m le a =
-      let one = a.one in
-      let within = a.within in
-      let same : take m.beneath (list ++ more) ≡ take m.beneath list = take-append-le m.beneath list more le in
-      record {
-        one = one;
-        within = omega (arith, within, length-append S (s ∷ []));
-        has = λ o. code-as m.position one within ∙ a.has (kind-as m.position within o);
-        lower = subst (λ l. AreBelow m.position (positions_of l)) (sym same) a.lower;
-        leads = subst (λ l. IsTail (positions_with es' c (actives kind (take m.position S'))) (m.position ∷ positions_of l)) (sym same)
-            (subst (λ xs. IsTail xs (m.position ∷ positions_of (take m.beneath list))) (sym (with-as m.position within)) a.leads);
-      }
+  sound-as : (m : Mention) → m.position ≤ length S → IsSound kind es S c list m → IsSound kind es' S' c list m
+  sound-as m within a = record {
+    one = a.one;
+    has = λ o. code-as m.position a.one within ∙ a.has (kind-as m.position within o);
+    lower = a.lower;
+    leads = subst (λ xs. IsTail xs (m.position ∷ positions_of (take m.beneath list))) (sym (with-as m.position within)) a.leads;
+  }
 
-  beneath-low : (i : ℕ) (m : Mention) → slice_get list i ≡ Some m → m.beneath ≤ length list
-  beneath-low i m got = let le = is.mentions.linked i m got in let lt = slice_get_within list i m got in omega (arith, le, lt)
-
-  -- the statement has not the symbol, or is of another kind
-  pub list-same : (kind s ≡ true → has_code es' c (length S + 1) ≡ false) → IsListOf kind es' S' c list
-  list-same lacks = record {
+  -- the mentions by the new statement are sound, and it has one if it is of the kind and has the
+  -- symbol
+  pub list-next : ((i : ℕ) (m : Mention) → slice_get list i ≡ Some m → m.position ≡ length S + 1 → IsSound kind es' S' c list m) → (kind s ≡ true → has_code es' c (length S + 1) ≡ true → IsMentionedAt (length S + 1) list)
+      → IsListOf kind es' S' c list
+  list-next new own = record {
     mentions = is.mentions;
-    sound = λ i m got. subst (λ l. IsSound kind es' S' c l m) (append-nil list) (sound-as [] m (beneath-low i m got) (is.sound i m got));
+    sound = λ i m got low. sound-by i m got low (cases_lt (length S) m.position);
     complete = λ p o has. by p o has (cases_lt (length S) p);
   }
     where
+      sound-by : (i : ℕ) (m : Mention) → slice_get list i ≡ Some m → m.position ≤ length S' → (length S < m.position) ⊎ (m.position ≤ length S) → IsSound kind es' S' c list m
+      sound-by i m got low (inr le) = sound-as m le (is.sound i m got le)
+      sound-by i m got low (inl lt) = new i m got (omega (arith, lt, low, length-append S (s ∷ [])))
+
       by : (p : ℕ) → IsOfKind kind S' p → has_code es' c p ≡ true → (length S < p) ⊎ (p ≤ length S) → (i : ℕ) × (m : Mention) × (slice_get list i ≡ Some m) × (m.position ≡ p)
       by p o has (inr le) = is.complete p (kind-as p le o) (sym (code-as p o.one le) ∙ has)
       by p o has (inl lt) =
           let within = slice_get_within S' (p - 1) o.statement o.stands in
           let place : p ≡ length S + 1 = omega (arith, lt, within, length-append S (s ∷ [])) in
           let last : s ≡ o.statement = same_Some s o.statement (sym (get-last S s) ∙ (ap (slice_get S') (omega (arith, place)) ∙ o.stands)) in
-          absurd (let no = lacks (ap kind last ∙ o.of_kind) in let yes = ap (has_code es' c) (sym place) ∙ has in cc)
-
-  -- one mention more
-  pub list-more : (m : Mention) → m.position ≡ length S + 1 → m.beneath ≤ length list → IsUntil m.position list → IsSound kind es' S' c (list ++ m ∷ []) m → IsListOf kind es' S' c (list ++ m ∷ [])
-  list-more m place le until sound = record {
-    mentions = mentions-more list m is.mentions le until;
-    sound = λ i u got. one i u (get-push list m u i got);
-    complete = λ p o has. by p o has (cases_lt (length S) p);
-  }
-    where
-      one : (i : ℕ) (u : Mention) → ((i < length list) × (slice_get list i ≡ Some u)) ⊎ ((i ≡ length list) × (m ≡ u)) → IsSound kind es' S' c (list ++ m ∷ []) u
-      one i u (inl old) = sound-as (m ∷ []) u (beneath-low i u old.1) (is.sound i u old.1)
-      one i u (inr new) = subst (IsSound kind es' S' c (list ++ m ∷ [])) new.1 sound
-
-      by : (p : ℕ) → IsOfKind kind S' p → has_code es' c p ≡ true → (length S < p) ⊎ (p ≤ length S) → (i : ℕ) × (u : Mention) × (slice_get (list ++ m ∷ []) i ≡ Some u) × (u.position ≡ p)
-      by p o has (inr low) = let r = is.complete p (kind-as p low o) (sym (code-as p o.one low) ∙ has) in (r.0, r.1, get-more list (m ∷ []) r.0 r.1 r.2, r.3)
-      by p o has (inl lt) =
-          let within = slice_get_within S' (p - 1) o.statement o.stands in
-          (length list, m, get-last list m, place ∙ omega (arith, lt, within, length-append S (s ∷ [])))
+          let r = own (ap kind last ∙ o.of_kind) (ap (has_code es' c) (sym place) ∙ has) in
+          (r.0, r.1, r.2, r.3 ∙ sym place)
 
   -- a statement of the kind with the symbol, above what is active before it
-  pub sound-own : (m : Mention) → m.position ≡ length S + 1 → m.beneath ≤ length list → positions_of (take m.beneath list) ≡ positions_with es c (actives kind S) → kind s ≡ true → is_close s ≡ false → has_code es' c (length S + 1) ≡ true
-      → IsSound kind es' S' c (list ++ m ∷ []) m
-  sound-own m place le beneath of_kind stays has =
+  pub sound-own : (m : Mention) → m.position ≡ length S + 1 → positions_of (take m.beneath list) ≡ positions_with es c (actives kind S) → kind s ≡ true → is_close s ≡ false → has_code es' c (length S + 1) ≡ true → IsSound kind es' S' c list m
+  sound-own m place beneath of_kind stays has =
       let all : take m.position S' ≡ S' = take_all m.position S' (omega (arith, place, length-append S (s ∷ []))) in
-      let same : take m.beneath (list ++ m ∷ []) ≡ take m.beneath list = take-append-le m.beneath list (m ∷ []) le in
       let at : 1 + length S ≡ m.position = omega (arith, place) in
       let old : positions_with es' c (actives kind S) ≡ positions_with es c (actives kind S) =
       ap (λ T. positions_with es' c (actives kind T)) (sym (take-append_seam S (s ∷ []))) ∙ (with-as (length S) (omega arith) ∙ ap (λ T. positions_with es c (actives kind T)) (take_all (length S) S (omega arith))) in
@@ -122,26 +100,46 @@ module _ (kind : Stmt → Bool) (es : List Entry) (S : Database) (e : Entry) (s 
       ∙ (ap (λ b. cond b (m.position ∷ positions_with es' c (actives kind S)) (positions_with es' c (actives kind S))) (ap (has_code es' c) place ∙ has) ∙ ap (λ xs. m.position ∷ xs) old))) in
       record {
         one = omega (arith, place);
-        within = omega (arith, place, length-append S (s ∷ []));
         has = λ o. ap (has_code es' c) place ∙ has;
-        lower = subst (AreBelow m.position) (sym (ap positions_of same ∙ beneath)) (subst (λ n. AreBelow n (positions_with es c (actives kind S))) (sym place) (with-below kind es c S));
-        leads = inl (next ∙ ap (λ xs. m.position ∷ xs) (sym (ap positions_of same ∙ beneath)));
+        lower = subst (AreBelow m.position) (sym beneath) (subst (λ n. AreBelow n (positions_with es c (actives kind S))) (sym place) (with-below kind es c S));
+        leads = inl (next ∙ ap (λ xs. m.position ∷ xs) (sym beneath));
       }
 
   -- a `$}`, above what is active after it
-  pub sound-mark : (m : Mention) → m.position ≡ length S + 1 → m.beneath ≤ length list → (kind s ≡ true → ⊥) → (from : ℕ) → from ≤ length S → positions_of (take m.beneath list) ≡ positions_with es c (actives kind (take from S))
-      → positions_with es' c (actives kind S') ≡ positions_with es c (actives kind (take from S)) → IsSound kind es' S' c (list ++ m ∷ []) m
-  sound-mark m place le other from low beneath after =
+  pub sound-mark : (m : Mention) → m.position ≡ length S + 1 → kind s ≡ false → (from : ℕ) → from ≤ length S → positions_of (take m.beneath list) ≡ positions_with es c (actives kind (take from S)) → actives kind S' ≡ actives kind (take from S)
+      → IsSound kind es' S' c list m
+  sound-mark m place other from low beneath after =
       let all : take m.position S' ≡ S' = take_all m.position S' (omega (arith, place, length-append S (s ∷ []))) in
-      let same : take m.beneath (list ++ m ∷ []) ≡ take m.beneath list = take-append-le m.beneath list (m ∷ []) le in
+      let front : positions_with es' c (actives kind (take from S)) ≡ positions_with es c (actives kind (take from S)) =
+      ap (λ T. positions_with es' c (actives kind T)) (sym (take-append-le from S (s ∷ []) low)) ∙ with-as from low in
       record {
         one = omega (arith, place);
-        within = omega (arith, place, length-append S (s ∷ []));
-        has = λ o. absurd (other (ap kind (same_Some s o.statement (sym (get-last S s) ∙ (ap (slice_get S') (omega (arith, place)) ∙ o.stands))) ∙ o.of_kind));
-        lower = subst (AreBelow m.position) (sym (ap positions_of same ∙ beneath))
+        has = λ o. absurd (let yes = ap kind (same_Some s o.statement (sym (get-last S s) ∙ (ap (slice_get S') (omega (arith, place)) ∙ o.stands))) ∙ o.of_kind in cc);
+        lower = subst (AreBelow m.position) (sym beneath)
             (below-wider (length (take from S) + 1) m.position (positions_with es c (actives kind (take from S))) (omega (arith, place, low, length-take-le from S low)) (with-below kind es c (take from S)));
-        leads = inr (subst (IsTail (positions_with es' c (actives kind (take m.position S')))) (sym (ap positions_of same ∙ beneath ∙ sym (ap (λ T. positions_with es' c (actives kind T)) all ∙ after))) (tail-same _));
+        leads = inr (subst (IsTail (positions_with es' c (actives kind (take m.position S')))) (sym (beneath ∙ sym (ap (λ T. positions_with es' c (actives kind T)) all ∙ (ap (positions_with es' c) after ∙ front)))) (tail-same _));
       }
+
+-- one mention more, by a later statement
+pub list-over : (kind : Stmt → Bool) (es : List Entry) (S : Database) (c : ℕ) (list : List Mention) (m : Mention) → IsListOf kind es S c list → length S < m.position → m.beneath ≤ length list → IsUntil m.position list → IsListOf kind es S c (list ++ m ∷ [])
+list-over kind es S c list m is late le until = record {
+  mentions = mentions-more list m is.mentions le until;
+  sound = λ i u got low. by i u low (get-push list m u i got);
+  complete = λ p o has. let r = is.complete p o has in (r.0, r.1, get-more list (m ∷ []) r.0 r.1 r.2, r.3);
+}
+  where
+    by : (i : ℕ) (u : Mention) → u.position ≤ length S → ((i < length list) × (slice_get list i ≡ Some u)) ⊎ ((i ≡ length list) × (m ≡ u)) → IsSound kind es S c (list ++ m ∷ []) u
+    by i u low (inl old) =
+        let a = is.sound i u old.1 low in
+        let linked = is.mentions.linked i u old.1 in
+        let same : take u.beneath (list ++ m ∷ []) ≡ take u.beneath list = take-append-le u.beneath list (m ∷ []) (omega (arith, linked, old.0)) in
+        record {
+          one = a.one;
+          has = a.has;
+          lower = subst (λ l. AreBelow u.position (positions_of l)) (sym same) a.lower;
+          leads = subst (λ l. IsTail (positions_with es c (actives kind (take u.position S))) (u.position ∷ positions_of l)) (sym same) a.leads;
+        }
+    by i u low (inr new) = let same = ap (λ (v : Mention). v.position) new.1 in absurd (omega (arith, low, late, same))
 
 -- ---- the first statements alone
 
@@ -163,13 +161,12 @@ module _ (kind : Stmt → Bool) (es : List Entry) (S : Database) (c : ℕ) (list
 
   sound-first : (i : ℕ) (m : Mention) → slice_get list i ≡ Some m → i < cut.0 → m.position ≤ n → IsSound kind (take n es) (take n S) c (kept_until n list) m
   sound-first i m got lt low =
-      let a = is.sound i m got in
+      let a = is.sound i m got (omega (arith, low, le)) in
       let one = a.one in
       let linked = is.mentions.linked i m got in
       let same : take m.beneath (kept_until n list) ≡ take m.beneath list = ap (take m.beneath) cut.1 ∙ take-take m.beneath cut.0 list (omega (arith, lt, linked)) in
       record {
         one = one;
-        within = omega (arith, low, length-take-le n S le);
         has = λ o. code-first m.position one low ∙ a.has (kind-first m.position o).0;
         lower = subst (λ l. AreBelow m.position (positions_of l)) (sym same) a.lower;
         leads = subst (λ l. IsTail (positions_with (take n es) c (actives kind (take m.position (take n S)))) (m.position ∷ positions_of l)) (sym same)
@@ -179,7 +176,7 @@ module _ (kind : Stmt → Bool) (es : List Entry) (S : Database) (c : ℕ) (list
   pub list-front : IsListOf kind (take n es) (take n S) c (kept_until n list)
   list-front = record {
     mentions = subst AreMentions (sym cut.1) (mentions-front list cut.0 is.mentions);
-    sound = λ i m got.
+    sound = λ i m got low.
         let g = take-get cut.0 i list m (ap (λ l. slice_get l i) (sym cut.1) ∙ got) in
         sound-first i m g.1 g.0 (kept-below list n i m got);
     complete = λ p o has.
@@ -193,6 +190,6 @@ module _ (kind : Stmt → Bool) (es : List Entry) (S : Database) (c : ℕ) (list
 pub list-none : (kind : Stmt → Bool) (c : ℕ) → IsListOf kind [] [] c []
 list-none kind c = record {
   mentions = record { linked = λ i m got. cc; ordered = λ i j d le lt. absurd (omega (arith, lt)) };
-  sound = λ i m got. cc;
+  sound = λ i m got low. cc;
   complete = λ p o has. let g = o.stands in cc;
 }

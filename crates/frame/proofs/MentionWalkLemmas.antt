@@ -1,15 +1,15 @@
 -- The walk from the last mention before a position down to the first one that is active there.
-use Rattle.frame.proofs.Words.{◌≡◌, ◌∙◌, ap, sym, subst, arith, refl, inl, inr, ℕ, zero, suc, ◌+◌, ◌-◌, ◌<◌, ◌≤◌, ◌⊎◌, Bool, true, false, cond, ◌&&◌, List, [], ◌∷◌, ◌++◌, length, map, filter, take, drop, take-append_seam, take-take, append-nil, length-append, length-take-le, slice_get, slice_get_within, same_Some, Some, None, Option, AreBelow, Stmt, Database, Entry, is_open, is_close, is_active, stays_open, active, active_from, actives, actives_from, last_active_of_kind, has_code, having_after, positions_with, IsOfKind, kind_test, In, Kind, Disj, take-get, take-append-le, get-last, get_or_from_slice_get, false_from_ne_true, and_parts, true≢false, IfSome, IfNone, length-take}
+use Rattle.frame.proofs.Words.{◌≡◌, ◌∙◌, ap, sym, subst, arith, refl, inl, inr, ℕ, zero, suc, ◌+◌, ◌-◌, ◌<◌, ◌≤◌, ◌⊎◌, Bool, true, false, cond, ◌&&◌, List, [], ◌∷◌, ◌++◌, length, map, take, drop, take-append_seam, take-take, append-nil, length-append, length-take-le, slice_get, slice_get_within, Some, None, Option, AreBelow, Stmt, Database, Entry, is_open, is_close, is_active, stays_open, actives, actives_from, last_active_of_kind, has_code, having_after, positions_with, IsOfKind, kind_test, In, Kind, Disj, take-get, take-append-le, get-last, get_or_from_slice_get, false_from_ne_true, and_parts, true≢false, IfSome, IfNone, length-take}
 use Rattle.entries.proofs.MentionLemmas.{before-below, before-has, positions-push}
-use Rattle.entries.specs.Mentions.{AreMentions, IsFront, IsLast, before, positions_of}
+use Rattle.entries.specs.Mentions.{IsFront, IsLast, before, positions_of}
 use Rattle.entries.specs.declared.mentions.Mention.{Mention}
 use Rattle.frame.proofs.LegalAfter.{stands-at}
 use Rattle.mm_read.specs.declared.stmt.Stmt.TheVariants as stmt
 use Rattle.frame.proofs.ActivePositions.{active-members, members-active}
-use Rattle.frame.proofs.BlockWalkLemmas.{active-stays, get-take, take-one, last-within}
+use Rattle.frame.proofs.BlockWalkLemmas.{active-stays, get-take, take-one}
 use Rattle.frame.proofs.LastActiveLemmas.{actives-push, actives-close, cut-here, length-cut}
-use Rattle.frame.proofs.OpenLemmas.{HasLast, IsNoClose, no_close, split_last, last-position, actives-append, stays-from, is-open}
-use Rattle.frame.proofs.StackLemmas.{positions_with-push}
+use Rattle.frame.proofs.OpenLemmas.{HasLast, IsNoClose, split_last, last-position, actives-append, stays-from, is-open}
+use Rattle.frame.proofs.PositionsWith.{having-append, positions_with-push}
 use Rattle.frame.specs.Stored.MentionLists.{IsListOf, IsSound, IsTail, passes, stands}
 
 -- ---- tails
@@ -58,10 +58,6 @@ having-tail found es c (p ∷ ps) = by (has_code es c p.0) (having-tail (cond (h
         one : (b : Bool) → IsTail found (cond b (p.0 ∷ found) found)
         one true = inr (tail-same found)
         one false = tail-same found
-
-having-append : (found : List ℕ) (es : List Entry) (c : ℕ) (ps qs : List (ℕ × Stmt)) → having_after found es c (ps ++ qs) ≡ having_after (having_after found es c ps) es c qs
-having-append found es c [] qs = refl
-having-append found es c (p ∷ ps) qs = having-append (cond (has_code es c p.0) (p.0 ∷ found) found) es c ps qs
 
 -- ---- what is active later is a part of what was active
 
@@ -215,7 +211,7 @@ no-open : (table : Kind) → kind_test table stmt.Open ≡ false
 no-open Disj = refl
 no-open table = refl
 
-no-closing : (table : Kind) → IsNoClose (kind_test table)
+pub no-closing : (table : Kind) → IsNoClose (kind_test table)
 no-closing Disj = refl
 no-closing table = refl
 
@@ -225,14 +221,14 @@ module _ (table : Kind) (es : List Entry) (S : Database) (c : ℕ) (list : List 
     pub sound : IsSound (kind_test table) es S c list m
     pub positions : positions_of (front ++ m ∷ []) ≡ m.position ∷ positions_of (take m.beneath list)
 
-  pub top-of : (n : ℕ) (front : List Mention) (m : Mention) → take n list ≡ front ++ m ∷ [] → IsTop n front m
-  top-of n front m cut =
+  pub top-of : (n : ℕ) (front : List Mention) (m : Mention) → take n list ≡ front ++ m ∷ [] → m.position ≤ length S → IsTop n front m
+  top-of n front m cut early =
       let got = take-get n (length front) list m (ap (λ l. slice_get l (length front)) cut ∙ get-last front m) in
       let le = is.mentions.linked (length front) m got.1 in
       let low = got.0 in
       let same : take m.beneath front ≡ take m.beneath list =
       sym (take-append-le m.beneath front (m ∷ []) le) ∙ (ap (take m.beneath) (sym cut) ∙ take-take m.beneath n list (omega (arith, le, low))) in
-      record { sound = is.sound (length front) m got.1; positions = positions-push front m le ∙ ap (λ r. m.position ∷ positions_of r) same }
+      record { sound = is.sound (length front) m got.1 early; positions = positions-push front m le ∙ ap (λ r. m.position ∷ positions_of r) same }
 
   module _ (at n : ℕ) (above : 1 ≤ at) (within : at ≤ length S + 1) (first : before at list ≡ take n list) where
     -- no statement of the kind between the last mention before `at` and `at` has the symbol
@@ -258,9 +254,9 @@ module _ (table : Kind) (es : List Entry) (S : Database) (c : ℕ) (list : List 
         by (inr q) =
             let front = q.0 in
             let m = q.1 in
-            let t = top-of n front m (sym first ∙ q.2) in
             let here : slice_get (before at list) (length front) ≡ Some m = ap (λ l. slice_get l (length front)) q.2 ∙ get-last front m in
             let lt = before-below list at (length front) m here in
+            let t = top-of n front m (sym first ∙ q.2) (omega (arith, lt, within)) in
             let all : (j : ℕ) (u : Mention) → slice_get (before at list) j ≡ Some u → u.position ≤ m.position = λ j u g.
             let gu = take-get n j list u (ap (λ l. slice_get l j) (sym first) ∙ g) in
             let gm = take-get n (length front) list m (ap (λ l. slice_get l (length front)) (sym first) ∙ here) in
@@ -294,7 +290,8 @@ module _ (table : Kind) (es : List Entry) (S : Database) (c : ℕ) (list : List 
         let f = w.front in
         let in_list = sym (whole f.0 f.1) ∙ (sym f.2 ∙ cut) in
         let here = take-get f.0 (length front) (before at list) m (ap (λ l. slice_get l (length front)) (sym f.2 ∙ cut) ∙ get-last front m) in
-        (top-of f.0 front m in_list, before-below list at (length front) m here.1)
+        let lt = before-below list at (length front) m here.1 in
+        (top-of f.0 front m in_list (omega (arith, lt, within)), lt)
 
     pub walk-end : (stack : List Mention) → IsWalked stack → ((m : Mention) → IsLast stack m → true ≡ stands table S m.position at) → positions_of stack ≡ found
     walk-end stack w last = by (split-last stack)

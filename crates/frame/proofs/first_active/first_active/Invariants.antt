@@ -1,12 +1,12 @@
-use Rattle.frame.proofs.Words.{◌≡◌, ◌-◌, ◌≤◌, ℕ, length, take, statements_of, actives, kind_test, positions_with}
-use Rattle.entries.specs.Mentions.{before, mentions_of, positions_of}
+use Rattle.frame.proofs.Words.{◌≡◌, ◌≤◌, ℕ, length, take, active_with, mentions_of, positions_of}
+use Rattle.entries.specs.Mentions.{before}
 use Rattle.frame.specs.Stored.MentionLists.{IsTail}
 use Rattle.frame.proofs.first_active.first_active.Given as goal
 
 abbrev pub invariant-loop-table : goal.invariant-loop-table
 invariant-loop-table l = record {
   front : (k : ℕ) × (k ≤ length (before l.at (mentions_of l.mentions l.code))) × (l.stack ≡ take k (before l.at (mentions_of l.mentions l.code)));
-  tail : IsTail (positions_with l.storage.entries l.code (actives (kind_test l.table) (take (l.at - 1) (statements_of l.storage)))) (positions_of l.stack);
+  tail : IsTail (active_with l.table l.entries l.code l.at) (positions_of l.stack);
 }
 
 abbrev pub decreases-loop-table : goal.decreases-loop-table
