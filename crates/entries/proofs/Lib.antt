@@ -3,6 +3,5 @@ pub mod SpanLemmas
 pub mod StatementRecordLemmas
 pub mod BufferPlaceLemmas
 pub mod AddedStatement
-pub mod VersionLemmas
-pub mod LogLemmas
-pub mod HistoryLemmas
+pub mod MentionLemmas
+pub mod MentionLogLemmas

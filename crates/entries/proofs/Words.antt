@@ -1,14 +1,10 @@
 -- The definitions and lemmas of std and of the layers below that the proofs of this crate use,
 -- re-exported from one place.
 pub use Rattle.entries.specs.Entries.{AreShapedParts, Entry, assertion_of, entry_by}
-pub use Rattle.entries.specs.Histories.{AreSame, AreUntil, AreWith, IsUntil, StackVersion, with_version, reverted, history, changed_at, kept_until, pushed, stack_at, stack_from}
 pub use Rattle.entries.specs.Stored.Records.{AreKept, ArePacked, Body, IsKept, IsOrdered, IsStored, bodies_of, body_of, counts_of, end_by, groups_by, has_parts, layout_in, record_by, numbers_by, numbers_of, spans_by, with_state_before, with_states_before}
 pub use Rattle.entries.specs.Stored.Spans.{AreSpansIn, Extends, cut}
-pub use Rattle.entries.specs.Stored.Versions.{AreLogged, AreVersions, Change, IsBefore, IsLinked, IsNext, IsReadable, IsUpToTop, last_stack, no_version, sinces_of, stack_after, stack_of, version_of, versions_after, versions_of}
 pub use Rattle.entries.specs.declared.buffer_part.BufferPart.{BufferPart}
 pub use Rattle.entries.specs.declared.entry_header.StateBefore.{StateBefore}
-pub use Rattle.entries.specs.declared.history.TheConstants.{RESTORED}
-pub use Rattle.entries.specs.declared.history.Version.{Version}
 pub use Rattle.entries.specs.declared.kind.Kind.{Kind}
 pub use Rattle.entries.specs.declared.layout.Layout.{Layout}
 pub use Rattle.entries.specs.declared.parts.AssertionParts.{AssertionParts}

@@ -2,11 +2,10 @@
 //!
 //! Contracts see `Entries` as a list of statements, each with its parts as plain lists; inside, a
 //! few buffers hold the parts of all. The crate `frame` says which names the numbers denote.
-//! `Histories` stores lists of positions of statements so that earlier ones can still be read.
+//! `Mentions` has, for each number, the statements that mention it.
 //!
 //! Reading order: `kind`, `last_active`, `entry_header`, `buffer_part`, `groups`, `assertion_view`,
-//! `parts`; `layout`, `statement_record`, `entries`; `history`, `position_stack`, `histories`;
-//! `room`.
+//! `parts`; `layout`, `statement_record`, `entries`; `mentions`; `room`.
 #![tactic(auto)]
 
 mod assertion_view;
@@ -14,13 +13,11 @@ pub mod buffer_part;
 mod entries;
 mod entry_header;
 mod groups;
-mod histories;
-mod history;
 mod kind;
 mod last_active;
 mod layout;
+mod mentions;
 mod parts;
-mod position_stack;
 mod room;
 mod statement_record;
 
@@ -29,9 +26,8 @@ pub use buffer_part::BufferPart;
 pub use entries::Entries;
 pub use entry_header::{EntryHeader, EntryRef, StateBefore};
 pub use groups::Groups;
-pub use histories::Histories;
 pub use kind::Kind;
 pub use last_active::LastActive;
+pub use mentions::{Mention, MentionStack, Mentions};
 pub use parts::AssertionParts;
-pub use position_stack::PositionStack;
 pub use room::give_back;

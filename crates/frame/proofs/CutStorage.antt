@@ -1,7 +1,7 @@
 -- The storage after it is cut to its first statements, and after added statements are removed
 -- again.
-use Rattle.frame.proofs.Words.{sym, ◌∙◌, ap, subst, arith, take-take, ◌≡◌, ℕ, ◌+◌, ◌<◌, ◌≤◌, true, List, length, map, take, drop, slice_get, Some, refl, suc, [], ◌∷◌, Option, None, length-take-le, take-map, take-append-drop, take_at, length-map, Name, Database, IsNumberingOf, Declared, declared_symbols, declared_labels, stays_open, label_of, symbols_of, labels_of, prepend_option, LastActive, Entry, is_disj, is_var, last_active_of, stmt_of, statements_of, positions_from, AreAllLegal, AreGivenBy, replaced_of, last_float, names_in, labels_in, option_position, AreNumbered, KeepsCounts, HasMoreAtEnd, Storage, naming_of, AreKept, AreStored, Extends, has_parts, IsKeptAs, extends-length, extends-take, take-get, labels_of-append, AreKeptUntil}
-use Rattle.frame.proofs.StackLemmas.{stacks-back}
+use Rattle.frame.proofs.Words.{sym, ◌∙◌, ap, subst, arith, take-take, ◌≡◌, ℕ, ◌+◌, ◌<◌, ◌≤◌, true, List, length, map, take, drop, slice_get, Some, refl, suc, [], ◌∷◌, Option, None, length-take-le, take-map, take-append-drop, take_at, length-map, Name, Database, IsNumberingOf, Declared, declared_symbols, declared_labels, stays_open, label_of, symbols_of, labels_of, prepend_option, LastActive, Entry, Disj, Var, last_active_of, stmt_of, statements_of, positions_from, AreAllLegal, AreGivenBy, replaced_of, last_float, names_in, labels_in, option_position, AreNumbered, KeepsCounts, HasMoreAtEnd, Storage, naming_of, AreKept, AreStored, Extends, has_parts, IsKeptAs, extends-length, extends-take, take-get, labels_of-append, AreKeptUntil}
+use Rattle.frame.proofs.TableLemmas.{table-back}
 use Rattle.frame.proofs.BlockWalkLemmas.{get-take}
 use Rattle.frame.proofs.DeclaredSymbolLemmas.{symbols_of-front}
 use Rattle.frame.proofs.AssertionLemmas.{kept-moved}
@@ -210,6 +210,6 @@ module _ (old mid new : Storage) (stored : AreStored old) (t : IsTakenBack old m
         kept = rw (back-names, back-labels, positions, floats, replaced, back-entries, t.last_active_cut, t.after.last_active) k;
         numbered = back-numbering ∙ (stored.numbered ∙ ap naming_of (sym back-statements));
         ended = rw (back-statements, ends) stored.ended;
-        disjoints = rw (back-statements, back-entries) (stacks-back is_disj old.disjoints mid.disjoints new.disjoints old.entries (statements_of old) stored.disjoints t.after.disjoints (subst (λ m. AreKeptUntil m mid.disjoints new.disjoints) long t.disjoints_cut));
-        variables = rw (back-statements, back-entries) (stacks-back is_var old.variables mid.variables new.variables old.entries (statements_of old) stored.variables t.after.variables (subst (λ m. AreKeptUntil m mid.variables new.variables) long t.variables_cut));
+        disjoints = rw back-entries (table-back Disj old.entries old.disjoints mid.disjoints new.disjoints stored.disjoints t.after.disjoints (subst (λ m. AreKeptUntil m mid.disjoints new.disjoints) long t.disjoints_cut));
+        variables = rw back-entries (table-back Var old.entries old.variables mid.variables new.variables stored.variables t.after.variables (subst (λ m. AreKeptUntil m mid.variables new.variables) long t.variables_cut));
       }

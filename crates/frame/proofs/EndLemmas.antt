@@ -1,13 +1,13 @@
 -- Where blocks end, as statements are appended or removed, and which statements are active by the
 -- ends.
-use Rattle.frame.proofs.Words.{sym, ◌∙◌, ap, subst, arith, inl, inr, length-append, length-drop, add-zero, ◌≡◌, ◌≢◌, ℕ, zero, suc, ◌+◌, ◌-◌, ◌<◌, ◌≤◌, Bool, true, false, cond, not, ◌==◌, ◌&&◌, ◌||◌, nat_eq, nat_le, ◌⊎◌, List, [], ◌∷◌, ◌++◌, length, take, drop, get_or, slice_get, slice_set, Option, Some, None, refl, get_or-append_seam, get_or-take, get_or_read, drop-append-le, drop-take, length-take-le, take-append-drop, get_or-set_other, drop_all, length-set, length-map, nil_from_length, take-take, cases_eq, and_parts, slice_get_within, same_Some, slice_get-get_or, Stmt, Open, Close, Database, stays_open, is_open, is_close, is_active, deficit, no_deficit, below-deficit, deficit-close, left_open, stays_open-same, place, LastActive, last_active_of_kind, last_position, last_active_of, kind_of, IsPlain, Kind, Storage, names_in, labels_in, statements_of, stmt_by, stmt_of, Name, decode, name_at, get-push, get-more, AreStored, end_from, end_of, AreBlockEnds, AreEnds, AreBlocks, with_end, Entry, get_or-append, get_or-set_at}
+use Rattle.frame.proofs.Words.{sym, ◌∙◌, ap, subst, arith, inl, inr, length-append, length-drop, add-zero, ◌≡◌, ◌≢◌, ℕ, zero, suc, ◌+◌, ◌-◌, ◌<◌, ◌≤◌, Bool, true, false, cond, not, ◌==◌, ◌&&◌, ◌||◌, nat_eq, nat_le, ◌⊎◌, List, [], ◌∷◌, ◌++◌, length, take, drop, get_or, slice_get, slice_set, Option, Some, None, refl, get_or-append_seam, get_or-take, drop-append-le, drop-take, length-take-le, take-append-drop, get_or-set_other, drop_all, length-set, length-map, nil_from_length, take-take, cases_eq, and_parts, slice_get_within, same_Some, slice_get-get_or, Stmt, Open, Close, Database, stays_open, is_open, is_close, is_active, deficit, no_deficit, below-deficit, deficit-close, left_open, stays_open-same, place, LastActive, last_active_of_kind, last_position, last_active_of, kind_of, IsPlain, Kind, Storage, names_in, labels_in, statements_of, stmt_by, stmt_of, Name, decode, name_at, get-push, get-more, AreStored, end_from, end_of, is_open_at, AreBlockEnds, AreEnds, AreBlocks, with_end, Entry, get_or-append, get_or-set_at}
 use Rattle.std.specs.Cmp.{both_ways}
 use Rattle.scope.proofs.ActiveLemmas as scope
 use Rattle.entries.specs.declared.kind.Kind.TheVariants as kind
 use Rattle.frame.proofs.StoredReading.{get-stmt}
 use Rattle.frame.proofs.OpenLemmas.{HasLast, IsLast, split_last, last-position, left-count, deficit-join, stays_open-front, is-open}
 use Rattle.frame.proofs.LastActiveLemmas.{cut-here, length-cut, drop-front}
-use Rattle.frame.proofs.BlockWalkLemmas.{get-take, take-one, last-within, active-stays, IsBack, walk-back, walk-over}
+use Rattle.frame.proofs.BlockWalkLemmas.{get-take, take-one, last-within, active-stays, walk-back, walk-over}
 
 -- ---- the last open block
 
@@ -206,28 +206,23 @@ module _ (S : Database) (i at : ℕ) (s : Stmt) (one : 1 ≤ i) (lt : i < at) (l
 
 -- whether a statement that is neither `${` nor `$}` is active at `at`, by the end of its block
 pub record IsTold (ends : List ℕ) (S : Database) (i at block : ℕ) : Type 0 where
-  pub outside : block ≡ 0 → is_active S i at ≡ true
-  pub within : block ≢ 0 → block - 1 < length ends
-  pub inside : (x : ℕ) → block ≢ 0 → x ≡ get_or ends (block - 1) x → is_active S i at ≡ (x == 0 || nat_le at x)
+  pub within : block ≤ length ends
+  pub told : is_active S i at ≡ is_open_at ends block at
 
-told-by : (ends : List ℕ) (S : Database) (i at block : ℕ) (found : Option Stmt) → AreEnds ends S → stays_open 0 S ≡ true → slice_get S (i - 1) ≡ found → IsPlain found
+pub told-by : (ends : List ℕ) (S : Database) (i at block : ℕ) (found : Option Stmt) → AreEnds ends S → stays_open 0 S ≡ true → slice_get S (i - 1) ≡ found → IsPlain found
     → 1 ≤ i → i < at → at ≤ length S + 1 → block ≡ last_active_of_kind is_open (take (i - 1) S) → IsTold ends S i at block
 told-by ends S i at block None told whole g plain one lt le is = absurd plain
 told-by ends S i at block (Some s) told whole g plain one lt le is = record {
-  outside = λ z. active-outside S i at s one lt le g plain.0 plain.1 whole (sym is ∙ z);
-  within = within;
-  inside = λ x some e.
-      let b = back some in
-      let up : suc (block - 1) ≡ block = omega (arith, b.1.above) in
-      let here : x ≡ end_of (block - 1) S = get_or_read ends (block - 1) x (within some) e 0 ∙ told.tell (block - 1) b.0 b.1.stands b.1.of_kind in
-      active-inside S i at s one lt le g plain.0 plain.1 (block - 1) (sym is ∙ sym up) ∙ ap (λ r. r == 0 || nat_le at r) (sym here);
+  within = omega (arith, told.count, is, last-within is_open (take (i - 1) S) refl, length-take-le (i - 1) S (omega (arith, lt, le)), lt, le);
+  told = by block refl;
 }
   where
-    back : block ≢ 0 → (t : Stmt) × IsBack is_open S (i - 1) block t
-    back some = walk-back is_open S (i - 1) block refl is some
-
-    within : block ≢ 0 → block - 1 < length ends
-    within some = let b = back some in omega (arith, b.1.within, told.count, lt, le, one, b.1.above)
+    by : (b : ℕ) → block ≡ b → is_active S i at ≡ is_open_at ends b at
+    by zero z = active-outside S i at s one lt le g plain.0 plain.1 whole (sym is ∙ z)
+    by (suc b) z =
+        let w = walk-back is_open S (i - 1) (suc b) refl (sym z ∙ is) (λ e. cc) in
+        let up : suc b - 1 ≡ b = omega arith in
+        active-inside S i at s one lt le g plain.0 plain.1 b (sym is ∙ z) ∙ ap (λ r. r == 0 || nat_le at r) (sym (told.tell b w.0 (ap (slice_get S) (sym up) ∙ w.1.stands) w.1.of_kind))
 
 pub active-told : (k : Storage) (i at : ℕ) (l : LastActive) → AreStored k → (1 ≤ i) × (i < at) × (at ≤ length (statements_of k) + 1) → IsPlain (slice_get (statements_of k) (i - 1)) → l ≡ last_active_of (take (i - 1) (statements_of k))
     → IsTold k.ends.items (statements_of k) i at l.block

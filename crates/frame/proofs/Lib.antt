@@ -11,9 +11,12 @@ pub mod NamingLemmas
 pub mod CutStorage
 pub mod CollectLemmas
 pub mod KindWalk
-pub mod StackLemmas
-pub mod BackLemmas
-pub mod PairStackLemmas
+pub mod PositionsWith
+pub mod ShapeLemmas
+pub mod TableLemmas
+pub mod MentionWalkLemmas
+pub mod MentionListLemmas
+pub mod PairTableLemmas
 pub mod PairsLemmas
 pub mod ActiveDisjointLemmas
 pub mod MakeLemmas

@@ -1,6 +1,6 @@
 -- The storage after memory was released: its lists are as before.
-use Rattle.frame.proofs.Words.{◌≡◌, Storage, AreStored, statements_of, is_disj, is_var, AreSame}
-use Rattle.frame.proofs.StackLemmas.{stacks-same}
+use Rattle.frame.proofs.Words.{◌≡◌, Storage, AreStored, Disj, Var, AreSame}
+use Rattle.frame.proofs.TableLemmas.{table-same}
 
 pub record IsShrunk (k new : Storage) : Type 0 where
   pub numbering : new.numbering ≡ k.numbering
@@ -18,6 +18,6 @@ stored-shrunk k new are s = record {
   kept = rw (s.numbering, s.positions, s.floats, s.replaced, s.entries, s.last_active) are.kept;
   numbered = rw (s.numbering, s.entries) are.numbered;
   ended = rw (s.numbering, s.entries, s.ends) are.ended;
-  disjoints = rw (s.numbering, s.entries) (stacks-same is_disj k.disjoints new.disjoints k.entries (statements_of k) are.disjoints s.disjoints);
-  variables = rw (s.numbering, s.entries) (stacks-same is_var k.variables new.variables k.entries (statements_of k) are.variables s.variables);
+  disjoints = rw s.entries (table-same Disj k.entries k.disjoints new.disjoints are.disjoints s.disjoints);
+  variables = rw s.entries (table-same Var k.entries k.variables new.variables are.variables s.variables);
 }

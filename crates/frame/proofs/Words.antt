@@ -2,12 +2,11 @@
 -- re-exported from one place.
 pub use Rattle.entries.proofs.AddedStatement.{ok-weaker, on-err}
 pub use Rattle.entries.proofs.BufferPlaceLemmas.{get-push, take-get}
-pub use Rattle.entries.proofs.HistoryLemmas.{changed-twice, kept-changed, stack-changed, stack-kept, stack-later, until-changed}
-pub use Rattle.entries.proofs.LogLemmas.{until-kept, until-later}
+pub use Rattle.entries.proofs.MentionLogLemmas.{kept-front as mentions-kept, until-kept, until-later}
 pub use Rattle.entries.proofs.SpanLemmas.{cut-more, cut-push, extends-length, extends-refl, extends-take, range-behind, spans-push, spans-reverse}
 pub use Rattle.entries.proofs.StatementRecordLemmas.{get-last, get-more}
 pub use Rattle.entries.specs.Entries.{IsWholeView, Assertion, Entry, entry_by, entry_from_ref}
-pub use Rattle.entries.specs.Histories.{AreKeptUntil, AreSame, AreUntil, IsUntil, StackVersion, reverted, history, kept_until, pushed, stack_at}
+pub use Rattle.entries.specs.Mentions.{AreKeptUntil, AreMentions, AreSame, AreUntil, AreWith, IsUntil, kept_until, mentions_of, positions_of}
 pub use Rattle.entries.specs.Hypotheses.{decoded_hypothesis}
 pub use Rattle.entries.specs.Stored.Spans.{AreSpansIn, Extends, cut}
 pub use Rattle.entries.specs.declared.assertion_view.AssertionView.{AssertionView}
@@ -17,6 +16,7 @@ pub use Rattle.entries.specs.declared.entry_header.EntryHeader.{EntryHeader}
 pub use Rattle.entries.specs.declared.kind.Kind.{Kind}
 pub use Rattle.entries.specs.declared.kind.Kind.TheVariants.{Axiom, Disj, Ess, Float, Prove, Var}
 pub use Rattle.entries.specs.declared.last_active.LastActive.{LastActive}
+pub use Rattle.entries.specs.declared.mentions.Mention.{Mention}
 pub use Rattle.frame.specs.AssertionView.{AreListsOf, AreNumberedHypotheses, IsStatementOf, IsNumberedHypothesis, IsTypecode, IsViewOf, typecode_of}
 pub use Rattle.frame.specs.AtPosition.{HasLegalProperties, ArePositions, HasLabelsOnce, IsPosition, HasSingleResults}
 pub use Rattle.frame.specs.Ascending.{AreAbove, Ascends}
@@ -31,15 +31,15 @@ pub use Rattle.frame.specs.ListsOfPairs.{AreListsOfPairs, have_both}
 pub use Rattle.frame.specs.Parts.{FrameParts, Numbered}
 pub use Rattle.frame.specs.Stored.AssertionParts.{IsKeptAs, floats_in, groups_by, has_parts, has_two_or_more_items, is_float_in, is_typed, is_typed_by, kept_with, entry_hypothesis, option_symbols, recorded_in, hypothesis_at, hypothesis_by, symbols_at, typecode_at, typed}
 pub use Rattle.frame.specs.Stored.Counts.{AreNumbered, AreZero, AreZeroAfter, HasMoreNames, HasRoom, HasTwoSymbolsIfFloat, HasMoreAtEnd, IsLabelBelow, IsPlain, KeepsCounts, kind_of, next_last_active}
-pub use Rattle.frame.specs.Stored.Ends.{AreBlocks, AreEnds, AreBlockEnds, end_from, end_of, with_end}
-pub use Rattle.frame.specs.Stored.EntryMeanings.{AreAllLegal, AreGivenBy, AreRestored, IsBelowIfSome, is_float_with, is_float_kind, labels_in, last_float, last_from, last_where, names_in, option_float, option_position, positions_from, replaced_after, replaced_of, second_is, statements_of, stmt_by, stmt_of, typed_by, with_float}
+pub use Rattle.frame.specs.Stored.Ends.{AreBlocks, AreEnds, AreBlockEnds, end_from, end_of, is_open_at, with_end}
+pub use Rattle.frame.specs.Stored.EntryMeanings.{AreAllLegal, AreGivenBy, AreRestored, IsBelowIfSome, is_float_with, is_float_kind, labels_in, last_float, last_from, last_where, names_in, option_float, option_position, positions_from, replaced_after, replaced_of, second_is, shapes_of, statements_of, stmt_by, stmt_of, typed_by, with_float}
 pub use Rattle.frame.specs.Stored.Hypotheses.{AreCollected, AreFloats, AreHypotheses, HasLookedUpFloats, ListsExactly, AreWithEssentials, HasMore, In, IsFilledFrom, IsFloatOf, IsFromEssentials, IsKeptWith, HoldsForSome, IsFloatOfSome, is_hypothesis_entry, kept_at, option_kept}
 pub use Rattle.frame.specs.Stored.Labels.{is_labelled_kind}
 pub use Rattle.frame.specs.Stored.Naming.{is_kind_of_symbol, naming_from, naming_of}
 pub use Rattle.frame.specs.Stored.OneFrame.{AreMandatory, among, is_needed, groups_among, is_in_essential, mandatory_positions}
-pub use Rattle.frame.specs.Stored.Stacks.{AreChangedBy, AreOfKind, AreStacks, IsNext, IsOfKind, KeepsUntil, has_code, positions_with, having_after, kind_test, last_by_kind, latest_of, opening, with_top}
-pub use Rattle.frame.specs.Stored.Whole.{AreKept, ArePartsFor, AreStored, IsEntryHeader, IsKeptOf, AreStacksOfStorage}
-pub use Rattle.frame.specs.declared.stacks.NextStatement.{NextStatement}
+pub use Rattle.frame.specs.Stored.MentionLists.{AreGrown, ArePlaced, IsGrown, IsLastActive, IsListOf, IsMentionedAt, IsSound, IsTableOf, IsTail, IsUpTo, active_with, is_entry_of, passes, stands}
+pub use Rattle.frame.specs.Stored.Stacks.{AreOfKind, IsOfKind, KeepsUntil, has_code, positions_with, having_after, kind_test, last_by_kind, opening}
+pub use Rattle.frame.specs.Stored.Whole.{AreKept, ArePartsFor, AreStored, IsEntryHeader, IsKeptOf}
 pub use Rattle.frame.specs.declared.storage.Storage.{Storage}
 pub use Rattle.mm_lex.specs.Alphabet.{Name, has_name, name_eq}
 pub use Rattle.mm_lex.specs.Words.{AreWords}

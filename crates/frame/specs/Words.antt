@@ -1,7 +1,7 @@
 -- The definitions of the layers below that this crate's definitions use, re-exported from one
 -- place.
 pub use Rattle.entries.specs.Entries.{Assertion, Entry}
-pub use Rattle.entries.specs.Histories.{AreUntil, StackVersion, history, kept_until, stack_at}
+pub use Rattle.entries.specs.Mentions.{AreMentions, AreUntil, IsUntil, kept_until, mentions_of, positions_of}
 pub use Rattle.entries.specs.Stored.Spans.{Extends}
 pub use Rattle.entries.specs.declared.assertion_view.AssertionView.{AssertionView}
 pub use Rattle.entries.specs.declared.assertion_view.Hypothesis.{Hypothesis}
@@ -11,6 +11,7 @@ pub use Rattle.entries.specs.declared.entry_header.EntryHeader.{EntryHeader}
 pub use Rattle.entries.specs.declared.kind.Kind.{Kind}
 pub use Rattle.entries.specs.declared.kind.Kind.TheVariants.{Axiom, Close, Const, Disj, Ess, Float, Open, Prove, Var}
 pub use Rattle.entries.specs.declared.last_active.LastActive.{LastActive}
+pub use Rattle.entries.specs.declared.mentions.Mention.{Mention}
 pub use Rattle.mm_lex.specs.Alphabet.{Name, has_name, name_eq}
 pub use Rattle.mm_read.specs.Statements.{Database, Expr}
 pub use Rattle.mm_read.specs.declared.stmt.Stmt.{Stmt}

@@ -1,6 +1,6 @@
 //! Finds what is active at a position.
 ghost use Rattle.std.specs.Prelude.{◌≡◌, ◌+◌, ◌-◌, ◌<◌, ◌≤◌, length, take, slice_get};
-ghost use Rattle.{scope.specs.Active.is_active, frame.specs.LastActive.last_active_of, frame.specs.Stored.Whole.AreStored, frame.specs.Stored.EntryMeanings.statements_of, frame.specs.Stored.Counts.IsPlain};
+ghost use Rattle.{scope.specs.Active.is_active, frame.specs.LastActive.last_active_of, frame.specs.Stored.Whole.AreStored, frame.specs.Stored.EntryMeanings.statements_of, frame.specs.Stored.Counts.IsPlain, frame.specs.Stored.Ends.is_open_at};
 
 use crate::storage::Storage;
 use entries::LastActive;
@@ -28,10 +28,19 @@ pub fn is_active_at(storage: &Storage, i: usize, at: usize) -> bool
     requires plain { IsPlain (slice_get (statements_of storage.now) (i - 1)) }
     ensures { result ≡ is_active (statements_of storage.now) i at }
 {
-    let block = last_active_at(storage, i).block as usize;
+    let block = last_active_at(storage, i).block;
+    is_open_at(&storage.ends, block, at)
+}
+
+/// Returns whether the block that opened at the position `block` is still open at `at`. What is
+/// outside all blocks, at 0, stays.
+pub fn is_open_at(ends: &[u32], block: u32, at: usize) -> bool
+    requires { block ≤ length ends.now }
+    ensures { result ≡ is_open_at ends.now block at }
+{
     if block == 0 {
         return true;
     }
-    let end = storage.ends[block - 1] as usize;
+    let end = ends[block as usize - 1] as usize;
     end == 0 || at <= end
 }

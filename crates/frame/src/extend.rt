@@ -1,7 +1,7 @@
 //! Appends a statement to the storage as a whole or not at all, and truncates it to the first
 //! statements.
 ghost use Rattle.std.specs.Prelude.{true, ◌≡◌, ◌++◌, ◌∷◌, [], Some, OnOk, OnErr, take, length, ◌+◌, IfSome, IfErr};
-ghost use Rattle.{names.specs.Codes.with_names, scope.specs.Active.bare, scope.specs.Legal.IsLegal, scope.specs.Legal.broken_rule, scope.specs.Stored.SymbolNumbers.AreRecorded, scope.specs.Symbols.symbols_declared_by, scope.specs.Symbols.symbols_in, scope.specs.Symbols.symbols_of, entries.specs.Histories.AreKeptUntil, entries.specs.Histories.AreSame, entries.specs.Stored.Spans.Extends, frame.specs.Stored.Whole.AreStored, frame.specs.Stored.Counts.HasMoreAtEnd, frame.specs.Stored.EntryMeanings.HasVariableNumbers, frame.specs.Stored.EntryMeanings.labels_in, frame.specs.Stored.EntryMeanings.names_in, frame.specs.Stored.EntryMeanings.statements_of};
+ghost use Rattle.{names.specs.Codes.with_names, scope.specs.Active.bare, scope.specs.Legal.IsLegal, scope.specs.Legal.broken_rule, scope.specs.Stored.SymbolNumbers.AreRecorded, scope.specs.Symbols.symbols_declared_by, scope.specs.Symbols.symbols_in, scope.specs.Symbols.symbols_of, entries.specs.Mentions.AreKeptUntil, entries.specs.Mentions.AreSame, entries.specs.Stored.Spans.Extends, frame.specs.Stored.Whole.AreStored, frame.specs.Stored.Counts.HasMoreAtEnd, frame.specs.Stored.EntryMeanings.HasVariableNumbers, frame.specs.Stored.EntryMeanings.labels_in, frame.specs.Stored.EntryMeanings.names_in, frame.specs.Stored.EntryMeanings.statements_of};
 
 use crate::assertion_parts::fill_parts;
 use crate::declare::{
@@ -9,12 +9,12 @@ use crate::declare::{
 };
 use crate::frame_buffers::FrameBuffers;
 use crate::frames::Frames;
+use crate::next_mentions::mention_next;
 use crate::shape::kind;
-use crate::stacks::{NextStatement, record_active};
 use crate::storage::Storage;
 use crate::symbol_numbers::find_numbers;
 use entries::buffer_part::to_u32;
-use entries::{EntryHeader, StateBefore, give_back};
+use entries::{EntryHeader, Kind, StateBefore, give_back};
 use mm_read::Stmt;
 use scope::{Rule, Rules, Scope, Steps, SymbolNumbers};
 use std::alloc::{AllocError, Global};
@@ -37,7 +37,7 @@ fn extend(
     ensures numbers { OnOk result (HasVariableNumbers storage.old stmt.now storage.new) }
     ensures after { OnErr result (HasMoreAtEnd storage.old storage.new) }
 {
-    let at = storage.entries.len() + 1;
+    let at = storage.entries.len() as u32 + 1;
     let kind = kind(stmt);
     let last_active = last_active_after(storage, kind);
     let header = EntryHeader {
@@ -56,23 +56,27 @@ fn extend(
     };
     let typed = typed(kind, codes);
     record_replaced(&storage.floats, typed, &mut storage.replaced)?;
-    storage.ends.push(0)?;
-    let next = NextStatement {
-        kind,
-        codes,
-        at: to_u32(at)?,
-        last_active: storage.last_active,
-    };
-    record_active(
+    mention_next(
         &mut storage.disjoints,
-        &mut storage.variables,
+        Kind::Disj,
         &storage.entries,
-        &next,
+        &storage.ends,
+        &header,
+        codes,
     )?;
+    mention_next(
+        &mut storage.variables,
+        Kind::Var,
+        &storage.entries,
+        &storage.ends,
+        &header,
+        codes,
+    )?;
+    storage.ends.push(0)?;
     storage.entries.push(header, &buffers.parts(codes))?;
-    declare(&mut storage.floats, typed, next.at);
+    declare(&mut storage.floats, typed, at);
     let block = storage.last_active.block;
-    record_end(&mut storage.ends, kind, block, next.at);
+    record_end(&mut storage.ends, kind, block, at);
     storage.last_active = last_active;
     Ok(())
 }

@@ -11,7 +11,7 @@ use crate::pairs::Pairs;
 use crate::shape::has_label;
 use crate::storage::Storage;
 use crate::symbol_numbers::label_number;
-use entries::{AssertionView, Entries, Groups, Histories, Hypotheses, Kind, LastActive};
+use entries::{AssertionView, Entries, Groups, Hypotheses, Kind, LastActive, Mentions};
 use mm_lex::Words;
 use scope::{Numbering, SymbolNumbers};
 use std::alloc::{AllocError, Global};
@@ -58,8 +58,8 @@ impl Frames {
                 replaced: Vec::new(alloc),
                 ends: Vec::new(alloc),
                 entries: Entries::new(alloc),
-                disjoints: Histories::new(alloc),
-                variables: Histories::new(alloc),
+                disjoints: Mentions::new(alloc),
+                variables: Mentions::new(alloc),
                 last_active: LastActive {
                     block: 0,
                     essential: 0,

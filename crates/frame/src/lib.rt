@@ -7,10 +7,10 @@
 //! `Frames` has numbers for symbols, also called codes; `frame` and `Frame` have names. A position
 //! counts from 1, an index from 0.
 //!
-//! Reading order: `storage`, `shape`, `frame_buffers`; `symbol_numbers`, `at_position`, `stacks`,
-//! `declare`, `mandatory`, `assertion_parts`, `extend` (appending and truncating); `meaning`,
-//! `frames`, `disjoints_with`, `pairs`, `active_disjoint` (queries); `assertion`, `one_frame`;
-//! `laws`.
+//! Reading order: `storage`, `shape`, `frame_buffers`; `symbol_numbers`, `at_position`,
+//! `first_active`, `next_mentions`, `declare`, `mandatory`, `assertion_parts`, `extend` (appending
+//! and truncating); `meaning`, `frames`, `disjoints_with`, `pairs`, `active_disjoint` (queries);
+//! `assertion`, `one_frame`; `laws`.
 #![tactic(auto)]
 
 mod active_disjoint;
@@ -20,15 +20,16 @@ mod at_position;
 mod declare;
 mod disjoints_with;
 mod extend;
+mod first_active;
 mod frame_buffers;
 mod frames;
 mod laws;
 mod mandatory;
 mod meaning;
+mod next_mentions;
 mod one_frame;
 mod pairs;
 mod shape;
-mod stacks;
 mod storage;
 mod symbol_numbers;
 

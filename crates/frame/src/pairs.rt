@@ -1,12 +1,13 @@
 //! The disjoint variables at a position.
-ghost use Rattle.std.specs.Prelude.{◌≡◌, ◌==◌, ◌&&◌, ◌<◌, ℕ, not, false, length, IfNone, IfSome};
-ghost use Rattle.{std.specs.List.list_any, mm_lex.specs.Alphabet.Name, names.specs.Codes.name_at, names.specs.Codes.code_of, scope.specs.Active.is_variable, frame.specs.Below.AllBelow, frame.specs.Below.AreBelow, frame.specs.FrameOf.is_pair, frame.specs.LastActive.is_disj, frame.specs.ListsOfPairs.AreListsOfPairs, frame.specs.ListsOfPairs.ArePairsWith, frame.specs.ListsOfPairs.is_numbered_pair, frame.specs.Stored.EntryMeanings.statements_of, frame.specs.Stored.Stacks.AreOfKind, frame.specs.Stored.Stacks.IsOfKind, frame.specs.Stored.Stacks.has_code, frame.specs.Stored.Whole.AreStored};
+ghost use Rattle.std.specs.Prelude.{◌≡◌, ◌==◌, ◌&&◌, ◌+◌, ◌-◌, ◌<◌, ◌≤◌, ℕ, not, false, length, take, IfNone, IfSome};
+ghost use Rattle.{std.specs.List.list_any, mm_lex.specs.Alphabet.Name, names.specs.Codes.name_at, names.specs.Codes.code_of, scope.specs.Active.is_variable, frame.specs.Below.AllBelow, frame.specs.Below.AreBelow, frame.specs.FrameOf.is_pair, entries.specs.Mentions.positions_of, frame.specs.LastActive.actives, frame.specs.LastActive.is_disj, frame.specs.ListsOfPairs.AreListsOfPairs, frame.specs.ListsOfPairs.ArePairsWith, frame.specs.ListsOfPairs.is_numbered_pair, frame.specs.Stored.EntryMeanings.statements_of, frame.specs.Stored.Stacks.AreOfKind, frame.specs.Stored.Stacks.IsOfKind, frame.specs.Stored.Stacks.has_code, frame.specs.Stored.Stacks.positions_with, frame.specs.Stored.Whole.AreStored};
 
 use crate::at_position::last_active_at;
 use crate::disjoints_with::DisjointsWith;
+use crate::first_active::first_active;
 use crate::storage::Storage;
 use crate::symbol_numbers::symbol_number;
-use entries::PositionStack;
+use entries::{Kind, MentionStack};
 use std::marker::Model;
 
 /// The `$d` that are active at a position.
@@ -37,8 +38,7 @@ impl<'a> Model for Pairs<'a> {
 impl<'a> Pairs<'a> {
     /// Returns whether x and y are different and both occur in one active `$d`.
     ///
-    /// Cost: the number of active `$d` that have x, or of those that have y if they are fewer,
-    /// times a binary search.
+    /// Cost: the number of active `$d` that have x, times a binary search.
     pub fn has(&self, x: u32, y: u32) -> bool
         requires { (x < length self.now.names) × (y < length self.now.names) }
         ensures { result ≡ is_numbered_pair self.now x y }
@@ -46,13 +46,7 @@ impl<'a> Pairs<'a> {
         if x == y {
             return false;
         }
-        let with_x = self.storage.disjoints.stack(x, self.at);
-        let with_y = self.storage.disjoints.stack(y, self.at);
-        if with_x.len() <= with_y.len() {
-            any_has(self.storage, with_x, y)
-        } else {
-            any_has(self.storage, with_y, x)
-        }
+        any_has(self.storage, active_disjoints(self.storage, x, self.at), y)
     }
 
     /// Returns the active `$d` that have x, from the last one back.
@@ -64,7 +58,7 @@ impl<'a> Pairs<'a> {
         ensures together { AreListsOfPairs self.now result }
         ensures below { AllBelow (length self.now.names) result }
     {
-        DisjointsWith::new(self.storage, self.storage.disjoints.stack(x, self.at))
+        DisjointsWith::new(self.storage, active_disjoints(self.storage, x, self.at))
     }
 
     /// Returns the same `$d`. Cost: a constant.
@@ -112,17 +106,44 @@ impl<'a> Pairs<'a> {
         requires { x < length self.now.names }
         ensures { result ≡ is_variable self.now.statements (name_at self.now.names x) }
     {
-        !self.storage.variables.stack(x, self.at).is_empty()
+        let storage = self.storage;
+        let mut declared = first_active(
+            &storage.entries,
+            &storage.ends,
+            &storage.variables,
+            Kind::Var,
+            x,
+            self.at,
+        );
+        declared.pop().is_some()
     }
+}
+
+/// Returns the `$d` that have a symbol and are active at `at`.
+///
+/// Cost: a binary search.
+fn active_disjoints(storage: &Storage, code: u32, at: usize) -> MentionStack<'_>
+    requires stored { AreStored storage.now }
+    requires place { (1 ≤ at) × (at ≤ length (statements_of storage.now) + 1) }
+    ensures { positions_of result ≡ positions_with storage.now.entries code (actives is_disj (take (at - 1) (statements_of storage.now))) }
+{
+    first_active(
+        &storage.entries,
+        &storage.ends,
+        &storage.disjoints,
+        Kind::Disj,
+        code,
+        at,
+    )
 }
 
 /// Returns whether one of the `$d` at these positions has the symbol.
 ///
 /// Cost: the number of the `$d`, times a binary search.
-fn any_has(storage: &Storage, mut stack: PositionStack<'_>, code: u32) -> bool
+fn any_has(storage: &Storage, mut stack: MentionStack<'_>, code: u32) -> bool
     requires stored { AreStored storage.now }
-    requires disjoints { AreOfKind is_disj (statements_of storage.now) stack }
-    ensures { result ≡ list_any (has_code storage.now.entries code) stack.entry }
+    requires disjoints { AreOfKind is_disj (statements_of storage.now) (positions_of stack) }
+    ensures { result ≡ list_any (has_code storage.now.entries code) (positions_of stack.entry) }
 {
     while let Some(at) = stack.pop() {
         if has_symbol(storage, at, code) {
@@ -132,14 +153,16 @@ fn any_has(storage: &Storage, mut stack: PositionStack<'_>, code: u32) -> bool
     false
 }
 
-/// Returns whether the `$d` at a position has the symbol: then it is on top of the symbol's stack.
+/// Returns whether the `$d` at a position has the symbol: then it is the first one that is active
+/// right after it.
 fn has_symbol(storage: &Storage, at: u32, code: u32) -> bool
     requires stored { AreStored storage.now }
     requires disjoint { IsOfKind is_disj (statements_of storage.now) at }
     ensures { result ≡ has_code storage.now.entries code at }
 {
-    match storage.disjoints.stack(code, at as usize + 1).last() {
-        Some(last) => last == at,
+    let mut active = active_disjoints(storage, code, at as usize + 1);
+    match active.pop() {
+        Some(first) => first == at,
         None => false,
     }
 }

@@ -1,5 +1,5 @@
 //! The statements of a database as numbers.
-use entries::{Entries, Histories, LastActive};
+use entries::{Entries, LastActive, Mentions};
 use scope::Numbering;
 
 /// The statements of a database, with all that is looked up about them: the symbols and labels by
@@ -20,10 +20,10 @@ pub struct Storage {
     pub ends: Vec<u32>,
     /// The statements.
     pub entries: Entries,
-    /// For each symbol, by its number, the active `$d` that have it, at each position.
-    pub disjoints: Histories,
-    /// For each symbol, by its number, the active `$v` that have it, at each position.
-    pub variables: Histories,
+    /// For each symbol, by its number, the `$d` that have it, and what each `$}` leaves of them.
+    pub disjoints: Mentions,
+    /// For each symbol, by its number, the `$v` that have it, and what each `$}` leaves of them.
+    pub variables: Mentions,
     /// The last active statement of each kind after all statements.
     pub last_active: LastActive,
 }

@@ -1,6 +1,6 @@
 -- Where blocks end (Metamath, 4.2.8), kept for each `${` by its index.
 -- Internal to the code: no public clause cites it.
-use Rattle.std.specs.Prelude.{◌≡◌, ℕ, zero, suc, ◌+◌, true, List, [], ◌∷◌, length, take, drop, get_or, slice_get, slice_set, Some}
+use Rattle.std.specs.Prelude.{◌≡◌, ℕ, zero, suc, ◌+◌, ◌==◌, ◌||◌, Bool, true, nat_le, List, [], ◌∷◌, length, take, drop, get_or, slice_get, slice_set, Some}
 use Rattle.frame.specs.Words.{Stmt, Database, is_open, Entry, Kind, Close}
 use Rattle.mm_read.specs.declared.stmt.Stmt.TheVariants as stmt
 use Rattle.frame.specs.LastActive.{last_active_of_kind}
@@ -27,6 +27,12 @@ AreBlockEnds ends S = (b : ℕ) (s : Stmt) → slice_get S b ≡ Some s → is_o
 pub record AreEnds (ends : List ℕ) (S : Database) : Type 0 where
   pub count : length ends ≡ length S
   pub tell : AreBlockEnds ends S
+
+-- the block that opened at the position `block` is still open at `at`; nothing ends what is outside
+-- all blocks, 0
+abbrev pub is_open_at : List ℕ → ℕ → ℕ → Bool
+is_open_at ends zero at = true
+is_open_at ends (suc b) at = get_or ends b 0 == 0 || nat_le at (get_or ends b 0)
 
 -- a `$}` records `at` as the end of the block that opened at the position `block`
 abbrev pub with_end : Kind → ℕ → ℕ → List ℕ → List ℕ

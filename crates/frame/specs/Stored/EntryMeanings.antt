@@ -34,6 +34,10 @@ labels_in k = declared_labels k.numbering
 abbrev pub statements_of : Storage → Database
 statements_of k = map (stmt_of (names_in k) (labels_in k)) k.entries
 
+-- statements of the same kinds, without names
+abbrev pub shapes_of : List Entry → Database
+shapes_of es = map (λ e. stmt_by e.kind [] []) es
+
 -- the statements of a storage, and the names of its symbols
 abbrev pub numbered : Storage → Numbered
 numbered k = record { statements = statements_of k; names = names_in k }

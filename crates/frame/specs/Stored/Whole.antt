@@ -1,15 +1,15 @@
 -- The storage of a database.
 -- Internal to the code: no public clause cites it.
 use Rattle.std.specs.Prelude.{◌≡◌, ℕ, ◌<◌, ◌^◌, true, List, length, map, take, slice_get, Some}
-use Rattle.frame.specs.Words.{Name, Stmt, stays_open, symbols_of, labels_of, LastActive, Assertion, Entry, Kind, EntryHeader, StackVersion}
+use Rattle.frame.specs.Words.{Name, Stmt, stays_open, symbols_of, labels_of, LastActive, Assertion, Entry, Disj, Var, EntryHeader}
 use Rattle.frame.specs.declared.storage.Storage.{Storage}
-use Rattle.frame.specs.LastActive.{is_disj, is_var, last_active_of}
+use Rattle.frame.specs.LastActive.{last_active_of}
 use Rattle.frame.specs.Stored.EntryMeanings.{stmt_of, names_in, labels_in, statements_of, positions_from, AreAllLegal, last_float, replaced_of}
 use Rattle.frame.specs.Stored.Counts.{AreNumbered, KeepsCounts, kind_of}
 use Rattle.frame.specs.Stored.Naming.{naming_of}
 use Rattle.frame.specs.Stored.AssertionParts.{IsKeptAs, has_parts}
 use Rattle.frame.specs.Stored.Ends.{AreEnds}
-use Rattle.frame.specs.Stored.Stacks.{AreStacks, kind_test}
+use Rattle.frame.specs.Stored.MentionLists.{IsTableOf}
 
 -- the lists of a storage are those of its statements
 pub record AreKept (names labels : List Name) (positions : List ℕ) (floats replaced : List ℕ) (entries : List Entry) (last_active : LastActive) : Type 0 where
@@ -29,21 +29,13 @@ pub record AreKept (names labels : List Name) (positions : List ℕ) (floats rep
   pub parts_kept : (i : ℕ) (e : Entry) → slice_get entries i ≡ Some e → has_parts e.kind ≡ true
       → IsKeptAs entries (take i (map (stmt_of names labels) entries)) (stmt_of names labels e) e.assertion
 
--- the storage is that of its statements, with the stacks of each symbol
+-- the storage is that of its statements, with the tables of the `$d` and `$v`
 pub record AreStored (k : Storage) : Type 0 where
   pub kept : AreKept (names_in k) (labels_in k) k.positions.items k.floats.items k.replaced.items k.entries k.last_active
   pub numbered : k.numbering ≡ naming_of (statements_of k)
   pub ended : AreEnds k.ends.items (statements_of k)
-  pub disjoints : AreStacks is_disj k.disjoints k.entries (statements_of k)
-  pub variables : AreStacks is_var k.variables k.entries (statements_of k)
-
--- the stacks of a kind are those of a storage with these entries and these last active statements
-pub record AreStacksOfStorage (stack_kind : Kind) (entries : List Entry) (last_active : LastActive) (hs : List (List StackVersion)) : Type 0 where
-  pub storage : Storage
-  pub stored : AreStored storage
-  pub entries_are : entries ≡ storage.entries
-  pub last_active_are : last_active ≡ storage.last_active
-  pub stacks : AreStacks (kind_test stack_kind) hs entries (statements_of storage)
+  pub disjoints : IsTableOf Disj k.entries k.disjoints
+  pub variables : IsTableOf Var k.entries k.variables
 
 -- h is the header of the next statement
 pub record IsEntryHeader (k : Storage) (s : Stmt) (h : EntryHeader) : Type 0 where

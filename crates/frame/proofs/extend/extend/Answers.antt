@@ -1,9 +1,8 @@
-use Rattle.frame.proofs.Words.{Extends, HasMoreAtEnd, Result, Ok, Err, OnErr, append-nil, ◌≡◌, ◌∙◌, ap, sym, subst, arith, refl, length, ◌+◌, ◌++◌, ◌∷◌, [], true, bare, entry_by, may-declare, AreBelow, has_parts, statements_of, AreGivenBy, IsKeptOf, NextStatement, history, kept_until, EntryHeader, IsBelowIfSome, List, ℕ}
+use Rattle.frame.proofs.Words.{◌≡◌, ◌∙◌, ap, sym, subst, arith, refl, length, ◌+◌, ◌++◌, ◌∷◌, [], true, bare, entry_by, may-declare, AreBelow, has_parts, statements_of, AreGivenBy, IsKeptOf, Storage, AreStored, HasMoreNames, ArePlaced, IsLastActive, IsTableOf, Disj, Var, EntryHeader, IsBelowIfSome, List, ℕ}
 use Rattle.frame.proofs.EndLemmas.{block-within, ends-next}
 use Rattle.frame.proofs.EnterLemmas.{IsEntered, IsExtended, added-numbers, entered-below, kept-pushed, numbered-pushed, pushed-statements}
 use Rattle.frame.proofs.NamingLemmas.{stored-naming}
-use Rattle.frame.proofs.BackLemmas.{walked-disj, walked-var}
-use Rattle.frame.proofs.StackLemmas.{disjoints-next, variables-next}
+use Rattle.frame.proofs.ShapeLemmas.{stored-last, stored-placed}
 use Rattle.frame.proofs.extend.extend.Goals as goal
 use Rattle.frame.proofs.extend.extend.Goals.{In-Some}
 
@@ -34,15 +33,29 @@ pub record_replaced-requires : goal.record_replaced-requires
 record_replaced-requires c =
     subst (λ (xs : List ℕ). IsBelowIfSome (length xs) c.typed-typed.result) (sym c.deref.ensures.value) (c.typed-typed.ensures.below _ (below (goal.at.record_replaced-requires c).In-Some))
 
-pub record_active-requires-clause-disjoints : goal.record_active-requires-clause-disjoints
-record_active-requires-clause-disjoints c =
-    let g = c.in_ok-declare_next.ensures.grown in
-    walked-disj c.args.storage.now c.declare_next.new.storage.entries c.declare_next.new.storage.last_active c.declare_next.new.storage.disjoints c.requires.stored g.entries g.last_active g.disjoints
+next-placed : (old new : Storage) (ends : List ℕ) → AreStored old → HasMoreNames old new → ends ≡ new.ends.items → ArePlaced new.entries ends
+next-placed old new ends stored g is = rw (g.entries, is, ap (λ v. v.items) g.ends) (stored-placed old stored)
 
-pub record_active-requires-clause-variables : goal.record_active-requires-clause-variables
-record_active-requires-clause-variables c =
-    let g = c.in_ok-declare_next.ensures.grown in
-    walked-var c.args.storage.now c.declare_next.new.storage.entries c.declare_next.new.storage.last_active c.declare_next.new.storage.variables c.requires.stored g.entries g.last_active g.variables
+next-last : (old new : Storage) → AreStored old → HasMoreNames old new → IsLastActive new.entries old.last_active
+next-last old new stored g = rw g.entries (stored-last old stored)
+
+pub mention_next-requires-clause-placed : goal.mention_next-requires-clause-placed
+mention_next-requires-clause-placed c = next-placed c.args.storage.now c.declare_next.new.storage c.deref-2.result.now c.requires.stored c.in_ok-declare_next.ensures.grown c.deref-2.ensures.value
+
+pub mention_next-requires-clause-last_active : goal.mention_next-requires-clause-last_active
+mention_next-requires-clause-last_active c = next-last c.args.storage.now c.declare_next.new.storage c.requires.stored c.in_ok-declare_next.ensures.grown
+
+pub mention_next-requires-clause-table : goal.mention_next-requires-clause-table
+mention_next-requires-clause-table c = let g = c.in_ok-declare_next.ensures.grown in rw (g.entries, g.disjoints) c.requires.stored.disjoints
+
+pub mention_next-requires-2-clause-placed : goal.mention_next-requires-2-clause-placed
+mention_next-requires-2-clause-placed c = next-placed c.args.storage.now c.declare_next.new.storage c.deref-3.result.now c.requires.stored c.in_ok-declare_next.ensures.grown c.deref-3.ensures.value
+
+pub mention_next-requires-2-clause-last_active : goal.mention_next-requires-2-clause-last_active
+mention_next-requires-2-clause-last_active c = next-last c.args.storage.now c.declare_next.new.storage c.requires.stored c.in_ok-declare_next.ensures.grown
+
+pub mention_next-requires-2-clause-table : goal.mention_next-requires-2-clause-table
+mention_next-requires-2-clause-table c = let g = c.in_ok-declare_next.ensures.grown in rw (g.entries, g.variables) c.requires.stored.variables
 
 pub declare-requires : goal.declare-requires
 declare-requires c = c.typed-typed.ensures.below _ (below (goal.at.declare-requires c).In-Some)
@@ -53,25 +66,6 @@ record_end-requires c =
     let g = c.in_ok-declare_next.ensures.grown in
     block-within k c.declare_next.new.storage.last_active.block c.push.new.self.items c.requires.stored (ap (λ l. l.block) g.last_active)
     (c.in_ok-push.ensures.items ∙ ap (λ v. v.items ++ 0 ∷ []) g.ends)
-
-any-err : {T E P : Type 0} (r : Result T E) → P → OnErr r P
-any-err (Ok x) p = tt
-any-err (Err e) p = p
-
-pub returns-in_err-push-clause-after : goal.returns-in_err-push-clause-after
-returns-in_err-push-clause-after c =
-    let g = c.in_ok-declare_next.ensures.grown in
-    any-err {P = HasMoreAtEnd c.args.storage.now _} c.from_residual-in_err-push.result (record {
-      numbering = g.numbering;
-      floats = g.floats;
-      positions = g.positions;
-      replaced = subst (λ v. Extends v.items c.record_replaced.new.replaced.items) g.replaced c.record_replaced.ensures.after;
-      ends = ([], c.in_err-push.ensures.items ∙ (ap (λ v. v.items) g.ends ∙ sym (append-nil _)));
-      entries = g.entries;
-      disjoints = λ d. ap (λ hs. kept_until (length c.args.storage.now.entries) (history hs d)) g.disjoints;
-      variables = λ d. ap (λ hs. kept_until (length c.args.storage.now.entries) (history hs d)) g.variables;
-      last_active = g.last_active;
-    })
 
 pub returns : goal.returns
 returns c =
@@ -84,13 +78,13 @@ returns c =
     let e = entered (goal.at.returns c).In-Some in
     let a = c.fill_parts.new.buffers in
     let kept : has_parts h.kind ≡ true → IsKeptOf k s a = λ own. c.in_ok-fill_parts.ensures.kept (ap has_parts (sym e.header.kind) ∙ own) in
-    let extended : IsExtended k new c.args.stmt.now h a codes c.kind-kind.result c.in_ok-to_u32-2.field-0 c.declare.new.floats.items c.record_replaced.new.replaced.items c.push-2.new.self c.last_active_after-last_active.result = record {
+    let extended : IsExtended k new c.args.stmt.now h a codes c.kind-kind.result (c.len.result + 1) c.declare.new.floats.items c.record_replaced.new.replaced.items c.push-2.new.self c.last_active_after-last_active.result = record {
       grown = told.grown;
       room = told.room;
       positions = told.positions;
       kept = kept;
       of_kind = c.kind-kind.ensures ∙ sym e.header.kind;
-      place = omega (arith, c.len-at.ensures.len, c.in_ok-to_u32-2.ensures);
+      place = omega (arith, c.len.ensures.len);
       recorded = λ x reads. rw (← c.typed-typed.ensures.typed) (c.in_ok-record_replaced.ensures.recorded x (subst (λ xs. AreGivenBy xs x) (sym c.deref.ensures.value) reads));
       each = λ k x g. rw (← c.typed-typed.ensures.typed) (c.declare.ensures.each k x g);
       count = c.declare.ensures.count;
@@ -98,17 +92,17 @@ returns c =
       linked = c.last_active_after-last_active.ensures s (sym c.kind-kind.ensures);
     } in
     let statements = pushed-statements e c.in-Some.ensures.numbers extended in
-    let x : NextStatement = record { kind = c.kind-kind.result; codes = c.in-Some.codes; at = c.in_ok-to_u32-2.field-0; last_active = new.last_active } in
-    let place : x.at ≡ length k.entries + 1 = omega (arith, c.in_ok-to_u32-2.ensures, c.len-at.ensures.len) in
+    let at = c.len.result + 1 in
+    let place : at ≡ length k.entries + 1 = omega (arith, c.len.ensures.len) in
     let entries : c.push-2.new.self ≡ k.entries ++ entry_by h codes a ∷ [] = extended.pushed ∙ ap (λ q. q ++ entry_by h codes a ∷ []) told.grown.entries in
     record {
       stored = record {
         kept = kept-pushed e c.in-Some.ensures.numbers extended;
         numbered = numbered-pushed k new c.args.stmt.now _ c.requires.stored told.numbering statements;
-        ended = ends-next k s _ c.kind-kind.result new.last_active.block x.at c.push.new.self.items c.record_end.new.ends.items c.requires.stored c.kind-kind.ensures (ap (λ l. l.block) told.grown.last_active)
+        ended = ends-next k s _ c.kind-kind.result new.last_active.block at c.push.new.self.items c.record_end.new.ends.items c.requires.stored c.kind-kind.ensures (ap (λ l. l.block) told.grown.last_active)
             place (c.in_ok-push.ensures.items ∙ ap (λ v. v.items ++ 0 ∷ []) told.grown.ends) c.record_end.ensures statements;
-        disjoints = disjoints-next k s (entry_by h codes a) x c.requires.stored place refl c.kind-kind.ensures told.grown.last_active new.disjoints c.record_active.new.disjoints c.push-2.new.self _ entries statements told.grown.disjoints c.in_ok-record_active.ensures.disjoints;
-        variables = variables-next k s (entry_by h codes a) x c.requires.stored place refl c.kind-kind.ensures told.grown.last_active new.variables c.record_active.new.variables c.push-2.new.self _ entries statements told.grown.variables c.in_ok-record_active.ensures.variables;
+        disjoints = subst (λ es. IsTableOf Disj es c.mention_next.new.mentions) (sym extended.pushed) (c.in_ok-mention_next.ensures.table a);
+        variables = subst (λ es. IsTableOf Var es c.mention_next-2.new.mentions) (sym extended.pushed) (c.in_ok-mention_next-2.ensures.table a);
       };
       added = statements;
       numbers = added-numbers e c.in-Some.ensures.numbers extended;

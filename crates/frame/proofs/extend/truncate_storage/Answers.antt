@@ -1,5 +1,5 @@
-use Rattle.frame.proofs.Words.{◌≡◌, ◌∙◌, ap, sym, subst, arith, length, take, ◌<◌, ◌≤◌, is_disj, is_var, AreStored, Extends, length-take-le, take-length, slice_get_within, names_in, labels_in, statements_of, AreGivenBy, replaced_of, last_float, declared_symbols, declared_labels, naming_of, entry_from_ref, AreKeptUntil}
-use Rattle.frame.proofs.StackLemmas.{stacks-front}
+use Rattle.frame.proofs.Words.{◌≡◌, ◌∙◌, ap, sym, subst, arith, length, take, ◌<◌, ◌≤◌, Disj, Var, AreStored, Extends, length-take-le, take-length, slice_get_within, names_in, labels_in, statements_of, AreGivenBy, replaced_of, last_float, declared_symbols, declared_labels, naming_of, entry_from_ref, AreKeptUntil}
+use Rattle.frame.proofs.TableLemmas.{table-front}
 use Rattle.frame.proofs.EndLemmas.{ends-front, stored-blocks}
 use Rattle.frame.proofs.CutStorage.{IsCut, kept-cut, cut-statements, names-front, front-naming, numbering-front}
 use Rattle.frame.proofs.extend.truncate_storage.Goals as goal
@@ -46,8 +46,8 @@ left c =
         numbered = numbering ∙ ap naming_of (sym statements);
         ended = rw (statements, ends)
             (ends-front c.remove_entries.new.storage.ends.items S n (omega (arith, fewer-than)) (away.count_ends ∙ c.requires.stored.ended.count) away.ends);
-        disjoints = rw (statements, back.entries ∙ away.entries) (stacks-front is_disj k.disjoints new.disjoints k.entries S n c.requires.stored.disjoints low (kept_disjoints back.disjoints));
-        variables = rw (statements, back.entries ∙ away.entries) (stacks-front is_var k.variables new.variables k.entries S n c.requires.stored.variables low (kept_variables back.variables));
+        disjoints = rw (back.entries ∙ away.entries) (table-front Disj k.entries k.disjoints new.disjoints n c.requires.stored.disjoints low (kept_disjoints back.disjoints));
+        variables = rw (back.entries ∙ away.entries) (table-front Var k.entries k.variables new.variables n c.requires.stored.variables low (kept_variables back.variables));
       },
       statements,
       names-front c.requires.stored.kept cut,
