@@ -17,6 +17,8 @@ pub mod PairStackLemmas
 pub mod PairsLemmas
 pub mod ActiveDisjointLemmas
 pub mod MakeLemmas
+pub mod PairListLemmas
+pub mod PairLawLemmas
 pub mod AssertionLemmas
 pub mod AssertionViewLemmas
 pub mod GroupsLemmas

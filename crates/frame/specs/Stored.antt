@@ -10,4 +10,5 @@ pub mod OneFrame
 pub mod Naming
 pub mod Ends
 pub mod Stacks
+pub mod PairLists
 pub mod Whole
