@@ -15,9 +15,9 @@ use Rattle.entries.specs.Stored.Spans.{cut, AreSpansIn}
 
 -- the parts of a statement, which `frame` gives to assertions and `$e` alone: `hypotheses` are the
 -- positions of its hypotheses, `numbered_hypotheses` each of them as a `$f` with its variable or a
--- `$e` with its position, `typecodes` the typecode of each, `groups` lists of variables. They are
--- `whole` if they are all mandatory hypotheses and groups of an assertion; else only the `$f` of
--- the statement's own variables
+-- `$e` with its position, `typecodes` the typecode of each, `groups` its mandatory pairs, as
+-- lists of variables. They are `whole` if they are all mandatory hypotheses and pairs of an
+-- assertion; else only the `$f` of the statement's own variables
 pub record Assertion : Type 0 where
   pub whole : Bool
   pub hypotheses : List ℕ
@@ -64,7 +64,7 @@ pub record IsWholeView (e : Entry) (c : AssertionView) : Type 0 where
   pub typecodes : c.typecodes.now ≡ e.assertion.typecodes
   pub hypotheses : c.hypotheses ≡ e.assertion.numbered_hypotheses
   pub conclusion : c.conclusion.now ≡ e.symbols
-  pub groups : c.groups ≡ e.assertion.groups
+  pub pairs : c.pairs ≡ e.assertion.groups
 
 -- x is the statement at index i, without its parts
 abbrev pub IsEntry : List Entry → ℕ → EntryRef → Type 0

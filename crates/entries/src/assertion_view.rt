@@ -101,7 +101,7 @@ fn hypothesis_of(number: u32) -> Hypothesis
 }
 
 /// An assertion as a verifier reads it, with its symbols as numbers. It has all mandatory
-/// hypotheses and groups of the assertion.
+/// hypotheses of the assertion.
 #[derive(Drop)]
 pub struct AssertionView<'a> {
     /// The typecode of each mandatory hypothesis, in order.
@@ -110,6 +110,10 @@ pub struct AssertionView<'a> {
     pub hypotheses: Hypotheses<'a>,
     /// The symbols of the assertion's expression.
     pub conclusion: &'a [u32],
-    /// The groups of variables: any two different variables of a group must have disjoint images.
-    pub groups: Groups<'a>,
+    /// Whether `pairs` has all mandatory pairs of the assertion. Else it is empty: they are too many
+    /// to be written out.
+    pub pairs_listed: bool,
+    /// The mandatory pairs, as lists: a variable, and those whose images must be disjoint from its
+    /// own.
+    pub pairs: Groups<'a>,
 }

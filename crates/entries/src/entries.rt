@@ -132,7 +132,8 @@ impl Entries {
             typecodes: part(numbers, layout.typecodes, layout.numbered_hypotheses),
             hypotheses: Hypotheses::new(part(numbers, layout.numbered_hypotheses, layout.symbols)),
             conclusion: part(numbers, layout.symbols, layout.hypotheses),
-            groups: Groups::new(groups, part(numbers, layout.grouped_variables, layout.end)),
+            pairs_listed: true,
+            pairs: Groups::new(groups, part(numbers, layout.grouped_variables, layout.end)),
         })
     }
 

@@ -2,10 +2,11 @@
 use crate::buffer_part::BufferPart;
 
 /// The symbols of a statement to be appended, and its parts: hypotheses, their typecodes, and
-/// groups of variables. `frame` gives parts to assertions and `$e` alone.
+/// groups of variables, which are its mandatory pairs as lists. `frame` gives parts to assertions
+/// and `$e` alone.
 #[derive(Clone, Copy, Drop)]
 pub struct AssertionParts<'a> {
-    /// Whether the parts are whole: all mandatory hypotheses and groups of an assertion. Else they
+    /// Whether the parts are whole: all mandatory hypotheses and pairs of an assertion. Else they
     /// are only the `$f` of the statement's own variables, if any.
     pub whole: bool,
     /// The numbers of its symbols.
@@ -16,8 +17,8 @@ pub struct AssertionParts<'a> {
     pub numbered_hypotheses: &'a [u32],
     /// The typecode of each hypothesis.
     pub typecodes: &'a [u32],
-    /// The variables of the groups, one group after another. Any two different variables of a group
-    /// must have disjoint images.
+    /// The variables of the groups, one group after another: a variable, and those whose images
+    /// must be disjoint from its own.
     pub grouped_variables: &'a [u32],
     /// Where each group stands in `grouped_variables`.
     pub groups: &'a [BufferPart],

@@ -1,5 +1,5 @@
 -- A statement is kept with the parts that were found, also after entries are appended or removed.
-use Rattle.frame.proofs.Words.{Result, Ok, Err, OnOk, sym, ◌∙◌, ap, subst, arith, inl, inr, ◌≡◌, ℕ, ◌-◌, ◌≤◌, Bool, true, false, List, [], ◌∷◌, ◌++◌, length, map, filter, take, slice_get, Some, refl, take-append_seam, take-map, take_all, Name, Stmt, Expr, Database, active, expr_of, is_essential, name_at, decode, hypotheses, is_hypothesis, actives, is_disj, is_hypothesis_kind, typecode_of, Kind, Float, Ess, Entry, Assertion, take-get, stmt_by, stmt_of, In, AreHypotheses, IsFilledFrom, is_hypothesis_entry, ArePartsFor, IsKeptAs, IsKeptOf, Storage, length-map, kept_with, is_float_in, floats_in, hypothesis_at, entry_hypothesis, typecode_at, symbols_at, option_symbols, groups_by, map-map}
+use Rattle.frame.proofs.Words.{Result, Ok, Err, OnOk, sym, ◌∙◌, ap, subst, arith, inl, inr, ◌≡◌, ℕ, ◌-◌, ◌≤◌, Bool, true, false, List, [], ◌∷◌, ◌++◌, length, map, filter, take, slice_get, Some, refl, take-append_seam, take-map, take_all, Name, Stmt, Expr, Database, active, expr_of, is_essential, name_at, decode, hypotheses, is_hypothesis, actives, is_disj, is_hypothesis_kind, typecode_of, Kind, Float, Ess, Entry, Assertion, take-get, stmt_by, stmt_of, In, AreHypotheses, IsFilledFrom, is_hypothesis_entry, ArePartsFor, IsKeptAs, IsKeptOf, Storage, length-map, kept_with, is_float_in, floats_in, hypothesis_at, entry_hypothesis, typecode_at, symbols_at, option_symbols, are_together, float_variables, pairs_by, AreReordered, map-map}
 use Rattle.mm_read.specs.declared.stmt.Stmt.TheVariants as stmt
 use Rattle.frame.proofs.ActivePositions.{active-members}
 use Rattle.frame.proofs.LegalAfter.{stands-at}
@@ -73,7 +73,7 @@ kept-moved names labels es fs i s d same k = record {
   hypotheses_kept = k.hypotheses_kept;
   numbered_kept = k.numbered_kept ∙ alike (hypothesis_at es) (hypothesis_at fs) d.hypotheses (λ p j. ap (entry_hypothesis p) (agree p j));
   typecodes_kept = k.typecodes_kept ∙ alike (typecode_at es) (typecode_at fs) d.hypotheses (λ p j. ap (λ o. typecode_of (option_symbols o)) (agree p j));
-  groups_kept = λ w. k.groups_kept w ∙ ap (groups_by d.numbered_hypotheses) symbols;
+  pairs_kept = λ w. subst (λ lists. AreReordered (pairs_by (are_together lists) (float_variables d.numbered_hypotheses)) d.groups) symbols (k.pairs_kept w);
   own_kept = k.own_kept;
 }
   where
@@ -108,10 +108,10 @@ kept-more names labels es more s d k =
 -- the parts made of all mandatory hypotheses of s are those that s is kept with
 pub filled-kept : (es : List Entry) (S : Database) (s : Stmt) (ps : List ℕ) (d : Assertion) → ps ≡ hypotheses S s → (is_essential s ≡ true → ⊥) → IsFilledFrom es S ps d → IsKeptAs es S s d
 filled-kept es S s ps d all other p = record {
-  hypotheses_kept = p.same ∙ (all ∙ ap (λ b. kept_with b S s) (sym p.is_whole));
+  hypotheses_kept = p.described.same ∙ (all ∙ ap (λ b. kept_with b S s) (sym p.is_whole));
   numbered_kept = p.described.numbered_made;
   typecodes_kept = p.described.typecodes_made;
-  groups_kept = p.described.groups_made;
+  pairs_kept = λ w. p.pairs_made;
   own_kept = λ e. absurd (other e);
 }
 

@@ -1,8 +1,10 @@
 -- Reading an assertion that is stored, and its parts by numbers.
-use Rattle.frame.proofs.Words.{sym, ◌∙◌, ap, subst, arith, ◌≡◌, ℕ, zero, suc, ◌+◌, ◌-◌, true, List, length, take, slice_get, Some, refl, Name, Stmt, expr_of, is_assertion, name_at, decode, HasAssertion, AssertionView, Entry, Assertion, IsWholeView, Kind, Axiom, Prove, Storage, AreBelow, AreListsOf, IsViewOf, IsWellTyped, HasLegalProperties, names_in, labels_in, stmt_by, stmt_of, statements_of, AreStored, IsKeptAs, has_parts}
+use Rattle.frame.proofs.Words.{AllBelow, AreDescribed, AreGroupsOf, AreMandatoryPairs, AreReordered, Hypothesis, [], are_together, disjoint_symbols, filter, float_variables, groups_in, has_two_or_more_items, hypotheses, is_numbered_pair, kept_with, pairs_by, stored_pairs, sym, ◌∙◌, ap, subst, arith, ◌≡◌, ℕ, zero, suc, ◌+◌, ◌-◌, true, List, length, take, slice_get, Some, refl, Name, Stmt, expr_of, is_assertion, name_at, decode, HasAssertion, AssertionView, Entry, Assertion, IsWholeView, Kind, Axiom, Prove, Storage, AreBelow, AreListsOf, IsViewOf, IsWellTyped, HasLegalProperties, names_in, labels_in, stmt_by, stmt_of, statements_of, AreStored, IsKeptAs, has_parts}
 use Rattle.frame.proofs.DeclaredSymbolLemmas.{stored-distinct}
 use Rattle.frame.proofs.FoundByNumber.{map-back, own-expr, numbered-at}
-use Rattle.frame.proofs.KeptStatementLemmas.{kept-lists, lists-cited}
+use Rattle.frame.proofs.KeptStatementLemmas.{kept-groups, kept-lists, lists-cited}
+use Rattle.frame.proofs.PairListLemmas.{pair-lists-same, pairs-below, reordered-below}
+use Rattle.frame.proofs.PairTableLemmas.{together-is}
 use Rattle.frame.proofs.WellTypedLemmas.{bound, bound-single}
 use Rattle.frame.proofs.LegalLabels.{legal-labels}
 
@@ -47,18 +49,41 @@ there-expr k a i s e stored asserts t = (
   (numbered-at (length (names_in k)) (length (labels_in k)) k.entries i e stored.kept.coded t.here).0,
 )
 
--- if the lists that are kept with the assertion are whole, they describe it
+-- lists of its mandatory hypotheses describe the assertion
 pub there-lists : (k : Storage) (a i : ℕ) (s : Stmt) (e : Entry) (d : Assertion) → AreStored k → is_assertion s ≡ true → IsThere k a i s e
-    → IsKeptAs k.entries (take (a - 1) (statements_of k)) s d → d.whole ≡ true → AreListsOf (statements_of k) (names_in k) a d s
-there-lists k a i s e d stored asserts t kept whole =
+    → AreDescribed k.entries (hypotheses (take (a - 1) (statements_of k)) s) d → AreListsOf (statements_of k) (names_in k) a d s
+there-lists k a i s e d stored asserts t described =
     subst (λ x. AreListsOf (statements_of k) (names_in k) a d x) t.is
     (kept-lists k.entries (names_in k) (labels_in k) (length (labels_in k)) a e d (stored-distinct k stored) stored.kept.coded stored.kept.legal (let q = t.place in omega (arith, q)) t.got (ap is_assertion t.is ∙ asserts)
-    (subst (λ x. IsKeptAs k.entries (take (a - 1) (statements_of k)) x d) (sym t.is) kept) whole)
+    (subst (λ x. AreDescribed k.entries (hypotheses (take (a - 1) (statements_of k)) x) d) (sym t.is) described))
+
+-- the groups by the variables of its mandatory hypotheses are those of the assertion
+pub there-groups : (k : Storage) (a i : ℕ) (s : Stmt) (e : Entry) (d : Assertion) → AreStored k → is_assertion s ≡ true → IsThere k a i s e
+    → AreDescribed k.entries (hypotheses (take (a - 1) (statements_of k)) s) d
+    → AreGroupsOf (statements_of k) (names_in k) a s (groups_in (float_variables d.numbered_hypotheses) (disjoint_symbols k.entries (take (a - 1) (statements_of k))))
+there-groups k a i s e d stored asserts t described =
+    subst (λ x. AreGroupsOf (statements_of k) (names_in k) a x (groups_in (float_variables d.numbered_hypotheses) (disjoint_symbols k.entries (take (a - 1) (statements_of k))))) t.is
+    (kept-groups k.entries (names_in k) (labels_in k) (length (labels_in k)) a e d (stored-distinct k stored) stored.kept.coded stored.kept.legal (let q = t.place in omega (arith, q)) t.got (ap is_assertion t.is ∙ asserts)
+    (subst (λ x. AreDescribed k.entries (hypotheses (take (a - 1) (statements_of k)) x) d) (sym t.is) described))
+
+-- pairs by the symbols of the active `$d` are those by their names
+pub stored-pairs : (k : Storage) → AreStored k → (m : ℕ) (hs : List Hypothesis) → AreBelow (length (names_in k)) (float_variables hs)
+    → stored_pairs k.entries (take m (statements_of k)) hs ≡ pairs_by (is_numbered_pair (record { statements = take m (statements_of k); names = names_in k })) (float_variables hs)
+stored-pairs k stored m hs low =
+    ap (filter has_two_or_more_items)
+    (pair-lists-same (length (names_in k)) (are_together (disjoint_symbols k.entries (take m (statements_of k)))) (is_numbered_pair (record { statements = take m (statements_of k); names = names_in k })) [] (float_variables hs)
+    (λ x y a b. together-is k stored (stored-distinct k stored) m x y a b) tt low)
 
 pub there-cited : (k : Storage) (a i : ℕ) (s : Stmt) (e : Entry) (c : AssertionView) → AreStored k → is_assertion s ≡ true → IsThere k a i s e → IsWholeView e c → IsViewOf (statements_of k) (names_in k) a s c
 there-cited k a i s e c stored asserts t w =
     let x = there-expr k a i s e stored asserts t in
-    lists-cited (statements_of k) (names_in k) a s e.assertion e.symbols (there-lists k a i s e e.assertion stored asserts t t.kept w.whole) x.0 x.1 c w.typecodes w.hypotheses w.conclusion w.groups
+    let T = take (a - 1) (statements_of k) in
+    let described : AreDescribed k.entries (hypotheses T s) e.assertion = record { same = t.kept.hypotheses_kept ∙ ap (λ b. kept_with b T s) w.whole; numbered_made = t.kept.numbered_kept; typecodes_made = t.kept.typecodes_kept } in
+    let lists = there-lists k a i s e e.assertion stored asserts t described in
+    let pairs = subst (λ l. AreReordered l e.assertion.groups) (stored-pairs k stored (a - 1) e.assertion.numbered_hypotheses lists.variables.below) (t.kept.pairs_kept w.whole) in
+    lists-cited (statements_of k) (names_in k) a s e.assertion e.symbols lists x.0 x.1 c w.typecodes w.hypotheses w.conclusion
+    (λ listed. subst (AreMandatoryPairs (record { statements = T; names = names_in k }) e.assertion.numbered_hypotheses) (sym w.pairs) pairs)
+    (subst (AllBelow (length (names_in k))) (sym w.pairs) (reordered-below (length (names_in k)) _ e.assertion.groups pairs (pairs-below (length (names_in k)) (is_numbered_pair (record { statements = T; names = names_in k })) (float_variables e.assertion.numbered_hypotheses) lists.variables.below)))
 
 pub all-legal : (k : Storage) → AreStored k → HasLegalProperties (statements_of k) (names_in k)
 all-legal k stored =

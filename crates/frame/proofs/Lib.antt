@@ -20,6 +20,8 @@ pub mod PairTableLemmas
 pub mod PairsLemmas
 pub mod ActiveDisjointLemmas
 pub mod MakeLemmas
+pub mod PairListLemmas
+pub mod PairLawLemmas
 pub mod AssertionLemmas
 pub mod AssertionViewLemmas
 pub mod GroupsLemmas

@@ -1,6 +1,6 @@
 -- Pairs of variables in an active `$d`, and active variables, by the active statements that have a
 -- symbol.
-use Rattle.frame.proofs.Words.{◌≡◌, ◌∙◌, ap, sym, arith, refl, ℕ, suc, ◌+◌, ◌-◌, ◌<◌, Bool, true, false, cond, not, ◌||◌, ◌&&◌, ◌==◌, nat_eq, List, [], ◌∷◌, ◌++◌, length, map, filter, take, slice_get, Option, Some, None, length-take, same_Some, list_any, or-false, append_assoc, length-append, take-get, list_any-map, AllBelow, AreBelow, Name, has_name, name_at, decode, AreDistinct, Stmt, Database, Entry, Storage, stays_open, active_from, actives, actives_from, is_disj, is_var, is_variable, disjoint_names, variables, is_pair, active_disjoint_lists, names_in, labels_in, statements_of, stmt_of, AreStored, symbols_at, option_symbols, has_code, having_after, positions_with, IsOfKind, AreOfKind, AreListsOfPairs, have_both}
+use Rattle.frame.proofs.Words.{are_together, disjoint_symbols, ◌≡◌, ◌∙◌, ap, sym, arith, refl, ℕ, suc, ◌+◌, ◌-◌, ◌<◌, Bool, true, false, cond, not, ◌||◌, ◌&&◌, ◌==◌, nat_eq, List, [], ◌∷◌, ◌++◌, length, map, filter, take, slice_get, Option, Some, None, length-take, same_Some, list_any, or-false, append_assoc, length-append, take-get, list_any-map, AllBelow, AreBelow, Name, has_name, name_at, decode, AreDistinct, Stmt, Database, Entry, Storage, stays_open, active_from, actives, actives_from, is_disj, is_var, is_variable, disjoint_names, variables, is_pair, active_disjoint_lists, names_in, labels_in, statements_of, stmt_of, AreStored, symbols_at, option_symbols, has_code, having_after, positions_with, IsOfKind, AreOfKind, AreListsOfPairs, have_both}
 use Rattle.frame.proofs.FoundByNumber.{map-back}
 use Rattle.frame.proofs.LegalAfter.{stands-at}
 use Rattle.frame.proofs.StoredOneMore.{numbered-at}
@@ -114,6 +114,17 @@ module _ (k : Storage) (stored : AreStored k) (d : AreDistinct (names_in k)) (m 
       (λ p s o. ap (λ t. t && has_code k.entries y p.0) (code-name is_disj disjoint_names disjoint_lists x a p s o) ∙ ap (λ t. has_name X (disjoint_names p.1) && t) (code-name is_disj disjoint_names disjoint_lists y b p s o))
       ∙ sym (groups-any (λ names. has_name X names && has_name Y names) T refl))) in
       ap (λ t. not t && list_any (λ names. has_name X names && has_name Y names) (active_disjoint_lists T)) (sym (same-number N x y d a b)) ∙ ap (λ t. not (nat_eq x y) && t) (sym both)
+
+  -- x and y are a pair exactly if they are different and an active `$d` has both
+  pub together-is : (x y : ℕ) → x < length N → y < length N → are_together (disjoint_symbols k.entries T) x y ≡ is_pair T (name_at N x) (name_at N y)
+  together-is x y a b =
+      let X = name_at N x in let Y = name_at N y in
+      let both : have_both (disjoint_symbols k.entries T) x y ≡ list_any (λ names. has_name X names && has_name Y names) (active_disjoint_lists T) =
+      sym (list_any-map (λ (q : ℕ × Stmt). symbols_at k.entries q.0) (λ list. list_any (λ c. x == c) list && list_any (λ c. y == c) list) (actives is_disj T))
+      ∙ (same-any is_disj T (λ p. has_code k.entries x p.0 && has_code k.entries y p.0) (λ p. has_name X (disjoint_names p.1) && has_name Y (disjoint_names p.1)) (actives is_disj T) (there is_disj)
+      (λ p s o. ap (λ t. t && has_code k.entries y p.0) (code-name is_disj disjoint_names disjoint_lists x a p s o) ∙ ap (λ t. has_name X (disjoint_names p.1) && t) (code-name is_disj disjoint_names disjoint_lists y b p s o))
+      ∙ sym (groups-any (λ names. has_name X names && has_name Y names) T refl)) in
+      ap (λ t. not (nat_eq x y) && t) both ∙ ap (λ t. not t && list_any (λ names. has_name X names && has_name Y names) (active_disjoint_lists T)) (same-number N x y d a b)
 
   pub positions_with-of-kind : (kind : Stmt → Bool) (es : List Entry) (c : ℕ) → AreOfKind kind (statements_of k) (positions_with es c (actives kind T))
   positions_with-of-kind kind es c = after [] (actives kind T) tt (there kind) (actives-in kind 1 1 (length T) T (omega arith) (omega arith))

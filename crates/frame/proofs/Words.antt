@@ -17,23 +17,26 @@ pub use Rattle.entries.specs.declared.kind.Kind.{Kind}
 pub use Rattle.entries.specs.declared.kind.Kind.TheVariants.{Axiom, Disj, Ess, Float, Prove, Var}
 pub use Rattle.entries.specs.declared.last_active.LastActive.{LastActive}
 pub use Rattle.entries.specs.declared.mentions.Mention.{Mention}
-pub use Rattle.frame.specs.AssertionView.{AreListsOf, AreNumberedHypotheses, IsStatementOf, IsNumberedHypothesis, IsTypecode, IsViewOf, typecode_of}
+pub use Rattle.frame.specs.AssertionView.{AreListsOf, AreNumberedHypotheses, IsStatementOf, IsNumberedHypothesis, IsTypecode, IsViewOf, typecode_of, AreBuffersOf, AreGroupsOf, AreVariablesOf}
 pub use Rattle.frame.specs.AtPosition.{HasLegalProperties, ArePositions, HasLabelsOnce, IsPosition, HasSingleResults}
 pub use Rattle.frame.specs.Ascending.{AreAbove, Ascends}
 pub use Rattle.frame.specs.Below.{AllBelow, AreBelow}
+pub use Rattle.frame.specs.Substitution.{CodeImages, Images, image, images_of_names}
 pub use Rattle.frame.specs.WellTyped.{HasFloat, IsWellTyped, BeginsWithNoVariable}
 pub use Rattle.frame.specs.Citations.{Carries, AreImagesOfVariables, expr_at, is_hypothesis_kind, premises}
-pub use Rattle.frame.specs.Disjoint.{are_disjoint, is_pair_disjoint, is_symbol_disjoint, is_variable_disjoint}
+pub use Rattle.frame.specs.Disjoint.{are_disjoint, are_groups_disjoint, are_lists_disjoint, is_group_disjoint, is_list_disjoint, is_pair_disjoint, is_symbol_disjoint, is_variable_disjoint}
 pub use Rattle.frame.specs.FrameOf.{HasAssertion, frame_of, active_disjoint_lists, hypotheses, is_hypothesis, is_mandatory, is_pair, is_used, mandatory_groups, has_two_or_more}
 pub use Rattle.frame.specs.LastActive.{actives, actives_from, is_disj, is_var, last_active_of, last_active_of_kind, last_position}
-pub use Rattle.frame.specs.Laws.{GroupsHaveMandatoryPairs}
-pub use Rattle.frame.specs.ListsOfPairs.{AreListsOfPairs, have_both}
-pub use Rattle.frame.specs.Parts.{FrameParts, Numbered}
-pub use Rattle.frame.specs.Stored.AssertionParts.{IsKeptAs, floats_in, groups_by, has_parts, has_two_or_more_items, is_float_in, is_typed, is_typed_by, kept_with, entry_hypothesis, option_symbols, recorded_in, hypothesis_at, hypothesis_by, symbols_at, typecode_at, typed}
+pub use Rattle.frame.specs.Laws.{GroupsHaveMandatoryPairs, PairListsDecideAsGroups}
+pub use Rattle.frame.specs.ListsOfPairs.{AreListsOfPairs, have_both, is_numbered_pair}
+pub use Rattle.frame.specs.MandatoryPairs.{AreMandatoryPairs, AreReordered, HasEachOnce, IsEachOnce, IsPairList, IsReordered, float_variables, has_number, has_two_or_more_items, pair_lists, pairs_by, with_floats, with_number}
+pub use Rattle.frame.specs.Parts.{FrameParts, Numbered, VariablePairs}
+pub use Rattle.frame.specs.Stored.AssertionParts.{IsKeptAs, are_together, disjoint_symbols, floats_in, groups_in, has_parts, is_float_in, is_typed, is_typed_by, kept_with, entry_hypothesis, option_symbols, recorded_in, hypothesis_at, hypothesis_by, stored_pairs, symbols_at, typecode_at, with_group, with_list}
 pub use Rattle.frame.specs.Stored.Counts.{AreNumbered, AreZero, AreZeroAfter, HasMoreNames, HasRoom, HasTwoSymbolsIfFloat, HasMoreAtEnd, IsLabelBelow, IsPlain, KeepsCounts, kind_of, next_last_active}
 pub use Rattle.frame.specs.Stored.Ends.{AreBlocks, AreEnds, AreBlockEnds, end_from, end_of, is_open_at, with_end}
 pub use Rattle.frame.specs.Stored.EntryMeanings.{AreAllLegal, AreGivenBy, AreRestored, IsBelowIfSome, is_float_with, is_float_kind, labels_in, last_float, last_from, last_where, names_in, option_float, option_position, positions_from, replaced_after, replaced_of, second_is, shapes_of, statements_of, stmt_by, stmt_of, typed_by, with_float}
-pub use Rattle.frame.specs.Stored.Hypotheses.{AreCollected, AreFloats, AreHypotheses, HasLookedUpFloats, ListsExactly, AreWithEssentials, HasMore, In, IsFilledFrom, IsFloatOf, IsFromEssentials, IsKeptWith, HoldsForSome, IsFloatOfSome, is_hypothesis_entry, kept_at, option_kept}
+pub use Rattle.frame.specs.Stored.Hypotheses.{AreCollected, AreFloats, AreHypotheses, HasLookedUpFloats, ListsExactly, AreWithEssentials, HasMore, In, IsFilledFrom, IsFloatOf, IsFromEssentials, IsKeptWith, HoldsForSome, IsFloatOfSome, is_hypothesis_entry, kept_at, option_kept, AreDescribed}
+pub use Rattle.frame.specs.Stored.PairLists.{AddsBefore}
 pub use Rattle.frame.specs.Stored.Labels.{is_labelled_kind}
 pub use Rattle.frame.specs.Stored.Naming.{is_kind_of_symbol, naming_from, naming_of}
 pub use Rattle.frame.specs.Stored.OneFrame.{AreMandatory, among, is_needed, groups_among, is_in_essential, mandatory_positions}

@@ -1,12 +1,13 @@
 -- The parts of an assertion by numbers: each mandatory hypothesis has its typecode and one number.
 -- Metamath, 4.2.6: a citation of an assertion needs results for its mandatory hypotheses.
 -- The code keeps these parts with the assertion; the expression of a `$e` is read from the `$e`.
-use Rattle.std.specs.Prelude.{◌≡◌, ℕ, ◌<◌, List, [], ◌∷◌, length, map, Some}
-use Rattle.frame.specs.Words.{Name, Stmt, Expr, Database, stmt_at, before, expr_of, name_at, decode, Hypothesis, Assertion, Essential, AssertionView, NO_TYPECODE}
+use Rattle.std.specs.Prelude.{◌≡◌, ℕ, ◌<◌, true, List, [], ◌∷◌, length, map, Some}
+use Rattle.frame.specs.Words.{Name, has_name, Stmt, Expr, Database, stmt_at, before, expr_of, name_at, decode, Hypothesis, Assertion, Essential, AssertionView, NO_TYPECODE}
 use Rattle.mm_read.specs.declared.stmt.Stmt.TheVariants as stmt
 use Rattle.entries.specs.declared.assertion_view.Hypothesis.TheVariants.{Float}
-use Rattle.frame.specs.FrameOf.{hypotheses, mandatory_groups}
+use Rattle.frame.specs.FrameOf.{hypotheses, is_mandatory, mandatory_groups}
 use Rattle.frame.specs.Below.{AreBelow, AllBelow}
+use Rattle.frame.specs.MandatoryPairs.{float_variables, AreMandatoryPairs}
 
 -- the first number of an expression, or `NO_TYPECODE` if it is empty
 abbrev pub typecode_of : List ℕ → ℕ
@@ -37,20 +38,30 @@ AreNumberedHypotheses S names [] [] [] = Unit {0}
 AreNumberedHypotheses S names (p ∷ ps) (typecode ∷ typecodes) (h ∷ hs) = IsNumberedHypothesis S names p typecode h × AreNumberedHypotheses S names ps typecodes hs
 AreNumberedHypotheses S names ps typecodes hs = ⊥
 
--- these lists describe the assertion s at a
+-- the numbers are those of the mandatory variables of the assertion s at a
+pub record AreVariablesOf (S : Database) (names : List Name) (a : ℕ) (s : Stmt) (variables : List ℕ) : Type 0 where
+  pub below : AreBelow (length names) variables
+  pub mandatory : (x : Name) → has_name x (decode names variables) ≡ is_mandatory (before S a) s x
+
+-- these lists describe the hypotheses of the assertion s at a
 pub record AreListsOf (S : Database) (names : List Name) (a : ℕ) (g : Assertion) (s : Stmt) : Type 0 where
   pub numbered_hypotheses : AreNumberedHypotheses S names (hypotheses (before S a) s) g.typecodes g.numbered_hypotheses
-  pub groups : map (decode names) g.groups ≡ mandatory_groups (before S a) s
-  pub groups_below : AllBelow (length names) g.groups
+  pub variables : AreVariablesOf S names a s (float_variables g.numbered_hypotheses)
 
--- these lists describe the assertion at a
+-- these lists describe the hypotheses of the assertion at a
 abbrev pub AreBuffersOf : Database → List Name → ℕ → Assertion → Type 0
 AreBuffersOf S names a g = (s : Stmt) → stmt_at S a ≡ Some s → AreListsOf S names a g s
 
--- these are the parts of the assertion s at a
+-- these are the groups of the assertion s at a
+pub record AreGroupsOf (S : Database) (names : List Name) (a : ℕ) (s : Stmt) (groups : List (List ℕ)) : Type 0 where
+  pub named : map (decode names) groups ≡ mandatory_groups (before S a) s
+  pub below : AllBelow (length names) groups
+
+-- these are the parts of the assertion s at a; if `pairs_listed`, all of its mandatory pairs
 pub record IsViewOf (S : Database) (names : List Name) (a : ℕ) (s : Stmt) (c : AssertionView) : Type 0 where
   pub numbered_hypotheses : AreNumberedHypotheses S names (hypotheses (before S a) s) c.typecodes.now c.hypotheses
   pub conclusion : decode names c.conclusion.now ≡ expr_of s
   pub conclusion_below : AreBelow (length names) c.conclusion.now
-  pub groups : map (decode names) c.groups ≡ mandatory_groups (before S a) s
-  pub groups_below : AllBelow (length names) c.groups
+  pub variables : AreVariablesOf S names a s (float_variables c.hypotheses)
+  pub pairs : c.pairs_listed ≡ true → AreMandatoryPairs (record { statements = before S a; names = names }) c.hypotheses c.pairs
+  pub pairs_below : AllBelow (length names) c.pairs

@@ -1,5 +1,5 @@
 -- Images that are disjoint by the `$d` active after the statements S.
-use Rattle.std.specs.Prelude.{Bool, not, ◌||◌, List}
+use Rattle.std.specs.Prelude.{Bool, true, not, ◌||◌, List, [], ◌∷◌}
 use Rattle.frame.specs.Words.{list_all, Name, name_eq, Expr, Database, is_variable}
 use Rattle.frame.specs.FrameOf.{is_pair}
 use Rattle.frame.specs.Substitution.{Images, image}
@@ -18,6 +18,15 @@ is_group_disjoint S σ names =
 -- this holds for each of the lists
 abbrev pub are_groups_disjoint : Database → Images → List (List Name) → Bool
 are_groups_disjoint S σ groups = list_all (is_group_disjoint S σ) groups
+
+-- the image of the first variable of a list is disjoint from those of the others
+abbrev pub is_list_disjoint : Database → Images → List Name → Bool
+is_list_disjoint S σ [] = true
+is_list_disjoint S σ (x ∷ others) = list_all (λ y. name_eq x y || are_disjoint S (image σ x) (image σ y)) others
+
+-- this holds for each of the lists
+abbrev pub are_lists_disjoint : Database → Images → List (List Name) → Bool
+are_lists_disjoint S σ lists = list_all (is_list_disjoint S σ) lists
 
 -- ---- by variables; no public clause cites these definitions
 

@@ -2,6 +2,7 @@ pub mod Words
 pub mod Parts
 pub mod FrameOf
 pub mod ListsOfPairs
+pub mod MandatoryPairs
 pub mod Substitution
 pub mod Disjoint
 pub mod Citations

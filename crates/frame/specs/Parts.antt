@@ -12,3 +12,8 @@ pub record FrameParts : Type 0 where
 pub record Numbered : Type 0 where
   pub statements : Database
   pub names : List Name
+
+-- the variables of an assertion, and the list of one of them and those before it
+pub record VariablePairs : Type 0 where
+  pub variables : List ℕ
+  pub list : List ℕ

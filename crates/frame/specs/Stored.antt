@@ -11,4 +11,5 @@ pub mod Naming
 pub mod Ends
 pub mod Stacks
 pub mod MentionLists
+pub mod PairLists
 pub mod Whole

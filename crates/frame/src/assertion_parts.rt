@@ -1,18 +1,19 @@
 //! Makes the parts that are kept with a statement: its hypotheses, each as one number, and its
-//! disjoint variables.
-ghost use Rattle.std.specs.Prelude.{◌≡◌, ℕ, List, ◌+◌, ◌-◌, ◌≤◌, ◌==◌, ◌||◌, [], true, false, length, map, take, OnOk};
+//! mandatory pairs.
+ghost use Rattle.std.specs.Prelude.{◌≡◌, ℕ, List, ◌+◌, ◌-◌, ◌≤◌, ◌==◌, ◌||◌, [], true, length, map, take, IfOk, OnOk};
 ghost use Rattle.mm_read.specs.declared.stmt.Stmt.{Stmt as Statement};
-ghost use Rattle.{names.specs.Codes.decode, names.specs.Codes.with_names, scope.specs.Active.expr_of, scope.specs.Active.bare, scope.specs.Stored.SymbolNumbers.AreRecorded, scope.specs.Symbols.symbols_declared_by, scope.specs.Symbols.symbols_in, entries.specs.Hypotheses.decoded_hypothesis, entries.specs.Stored.Spans.cut, entries.specs.Stored.Spans.AreSpansIn, frame.specs.Below.AreBelow, frame.specs.AssertionView.typecode_of, frame.specs.Stored.Whole.AreStored, frame.specs.Stored.Whole.ArePartsFor, frame.specs.Stored.Hypotheses.AreHypotheses, frame.specs.Stored.Hypotheses.IsFilledFrom, frame.specs.Stored.Counts.HasTwoSymbolsIfFloat, frame.specs.Stored.Counts.kind_of, frame.specs.Stored.AssertionParts.hypothesis_at, frame.specs.Stored.AssertionParts.hypothesis_by, frame.specs.Stored.AssertionParts.typecode_at, frame.specs.Stored.AssertionParts.is_typed, frame.specs.Stored.AssertionParts.is_typed_by, frame.specs.Stored.AssertionParts.with_group, std.specs.List.list_any, frame.specs.Stored.AssertionParts.has_parts, frame.specs.Stored.EntryMeanings.names_in, frame.specs.Stored.EntryMeanings.statements_of, frame.specs.FrameOf.hypotheses, frame.specs.Stored.OneFrame.mandatory_positions};
+ghost use Rattle.{names.specs.Codes.decode, names.specs.Codes.with_names, scope.specs.Active.expr_of, scope.specs.Active.bare, scope.specs.Stored.SymbolNumbers.AreRecorded, scope.specs.Symbols.symbols_declared_by, scope.specs.Symbols.symbols_in, entries.specs.Hypotheses.decoded_hypothesis, entries.specs.Stored.Spans.cut, entries.specs.Stored.Spans.AreSpansIn, frame.specs.Below.AreBelow, frame.specs.AssertionView.typecode_of, frame.specs.Stored.Whole.AreStored, frame.specs.Stored.Whole.ArePartsFor, frame.specs.Stored.Hypotheses.AreHypotheses, frame.specs.Stored.Hypotheses.IsFilledFrom, frame.specs.Stored.Counts.HasTwoSymbolsIfFloat, frame.specs.Stored.Counts.kind_of, frame.specs.Stored.AssertionParts.hypothesis_at, frame.specs.Stored.AssertionParts.hypothesis_by, frame.specs.Stored.AssertionParts.typecode_at, frame.specs.Stored.AssertionParts.is_typed, frame.specs.Stored.AssertionParts.is_typed_by, frame.specs.Stored.AssertionParts.with_list, frame.specs.MandatoryPairs.AreReordered, frame.specs.MandatoryPairs.pairs_by, frame.specs.ListsOfPairs.is_numbered_pair, std.specs.List.list_any, frame.specs.Stored.AssertionParts.has_parts, frame.specs.Stored.EntryMeanings.names_in, frame.specs.Stored.EntryMeanings.statements_of, frame.specs.FrameOf.hypotheses, frame.specs.Stored.OneFrame.mandatory_positions};
 
-use crate::at_position::last_active_at;
 use crate::frame_buffers::FrameBuffers;
-use crate::mandatory::{add_essentials, are_few, find_floats};
+use crate::mandatory::{add_essentials, find_floats};
+use crate::pair_buffer::PairBuffer;
+use crate::pairs::Pairs;
 use crate::shape::{has_parts, is_essential, kind};
 use crate::storage::Storage;
 use entries::buffer_part::between;
 use entries::{BufferPart, EntryRef, Hypotheses, Hypothesis, Kind, NO_TYPECODE, number_of};
 use mm_read::Stmt;
-use scope::{Stack, SymbolNumbers};
+use scope::SymbolNumbers;
 use std::alloc::AllocError;
 
 /// Returns the typecode of an expression, which is its first symbol, or `NO_TYPECODE` if it is
@@ -59,104 +60,92 @@ pub fn encode_hypotheses(
     Ok(())
 }
 
-/// Records the variable of a `$f`, once.
-fn record_variable(hypothesis: Hypothesis, found: &mut Stack) -> Result<(), AllocError>
-    ensures { OnOk result ((c : ℕ) → list_any (λ n. n == c) found.new ≡ (list_any (λ n. n == c) found.old || is_typed_by c hypothesis)) }
+/// Appends, of each variable that has a mandatory pair with one before it, the list of it and those
+/// before it. Returns `false` behind the list with which they take more than `room` numbers.
+///
+/// Errors: an allocation fails. Cost: the rows of the variables.
+fn add_pairs(
+    pairs: &Pairs<'_>,
+    room: usize,
+    pair_buffer: &mut PairBuffer,
+    grouped_variables: &mut Vec<u32>,
+    groups: &mut Vec<BufferPart>,
+) -> Result<bool, AllocError>
+    requires below { AreBelow (length pairs.now.names) pair_buffer.old.variables }
+    requires empty { cut grouped_variables.old.items groups.old.items ≡ [] }
+    requires within { AreSpansIn (length grouped_variables.old.items) groups.old.items }
+    ensures added { IfOk result (λ whole. whole ≡ true → AreReordered (pairs_by (is_numbered_pair pairs.now) pair_buffer.old.variables) (cut grouped_variables.new.items groups.new.items)) }
+    ensures within { AreSpansIn (length grouped_variables.new.items) groups.new.items }
 {
-    let Hypothesis::Float(variable) = hypothesis else {
-        return Ok(());
-    };
-    if found.index_of(variable).is_some() {
-        return Ok(());
+    for index in 0..pair_buffer.len() {
+        pair_buffer.fill(pairs, index)?;
+        add_list(pair_buffer.list(), grouped_variables, groups)?;
+        if grouped_variables.len() > room {
+            return Ok(false);
+        }
     }
-    found.push(variable)
+    Ok(true)
 }
 
-/// Records the variables of the hypotheses, and no others.
-fn record_variables(hypotheses: &Hypotheses<'_>, found: &mut Stack) -> Result<(), AllocError>
-    ensures { OnOk result ((c : ℕ) → list_any (λ n. n == c) found.new ≡ is_typed hypotheses.now c) }
-{
-    found.truncate(0);
-    for i in 0..hypotheses.len() {
-        record_variable(hypotheses.get(i), found)?;
-    }
-    Ok(())
-}
-
-/// Appends a group of those symbols that are among the variables, if they are two or more.
+/// Appends a list, if it has two or more numbers.
 ///
 /// Errors: an allocation fails.
-fn add_group(
-    variables: &Stack,
-    codes: &[u32],
+fn add_list(
+    list: &[u32],
     grouped_variables: &mut Vec<u32>,
     groups: &mut Vec<BufferPart>,
 ) -> Result<(), AllocError>
     requires within { AreSpansIn (length grouped_variables.old.items) groups.old.items }
-    ensures added { OnOk result (cut grouped_variables.new.items groups.new.items ≡ with_group variables.now codes.now (cut grouped_variables.old.items groups.old.items)) }
+    ensures added { OnOk result (cut grouped_variables.new.items groups.new.items ≡ with_list list.now (cut grouped_variables.old.items groups.old.items)) }
     ensures within { AreSpansIn (length grouped_variables.new.items) groups.new.items }
 {
+    if list.len() < 2 {
+        return Ok(());
+    }
     let from = grouped_variables.len();
-    for code in codes {
-        if variables.index_of(*code).is_some() {
-            grouped_variables.push(*code)?;
-        }
-    }
-    let to = grouped_variables.len();
-    if to > from + 1 {
-        let span = between(from, to)?;
-        groups.push(span)?;
-    } else {
-        grouped_variables.truncate(from);
-    }
+    grouped_variables.extend_from_slice(list)?;
+    let span = between(from, grouped_variables.len())?;
+    groups.push(span)?;
     Ok(())
 }
 
 /// Appends the other parts of an assertion at `at` to `buffers`, which has the positions of its
-/// mandatory hypotheses: each hypothesis as one number, its typecode, and the groups (for each
-/// active `$d` its mandatory variables, if they are two or more).
+/// mandatory hypotheses: each hypothesis as one number, its typecode, and the mandatory pairs.
+/// Returns `false` if hypotheses and pairs take more than `MAX_KEPT` numbers.
 ///
-/// Errors: an allocation fails. Cost: the hypotheses, and the symbols of the active `$d`.
-pub fn fill_from_hypotheses(
-    storage: &Storage,
-    at: usize,
-    buffers: &mut FrameBuffers,
-) -> Result<(), AllocError>
+/// Errors: an allocation fails. Cost: the hypotheses, and the rows of the mandatory variables.
+fn fill_whole(storage: &Storage, at: usize, buffers: &mut FrameBuffers) -> Result<bool, AllocError>
     requires stored { AreStored storage.now }
     requires place { (1 ≤ at) × (at ≤ length (statements_of storage.now) + 1) }
     requires hypotheses { AreHypotheses storage.now.entries buffers.old.hypotheses }
     requires undescribed { (buffers.old.numbered_hypotheses ≡ []) × (buffers.old.typecodes ≡ []) × (buffers.old.groups ≡ []) }
-    ensures { OnOk result (IsFilledFrom storage.now.entries (take (at - 1) (statements_of storage.now)) buffers.old.hypotheses buffers.new) }
+    ensures { IfOk result (λ whole. whole ≡ true → IsFilledFrom storage.now.entries (take (at - 1) (statements_of storage.now)) buffers.old.hypotheses buffers.new) }
 {
+    if buffers.hypotheses.len() > MAX_KEPT {
+        return Ok(false);
+    }
+    let room = MAX_KEPT - buffers.hypotheses.len();
     encode_hypotheses(
         storage,
         &buffers.hypotheses,
         &mut buffers.numbered_hypotheses,
         &mut buffers.typecodes,
     )?;
-    record_variables(
-        &Hypotheses::new(&buffers.numbered_hypotheses),
-        &mut buffers.recorded,
+    let hypotheses = Hypotheses::new(&buffers.numbered_hypotheses);
+    buffers.pair_buffer.begin(&hypotheses)?;
+    buffers.whole = add_pairs(
+        &Pairs { storage, at },
+        room,
+        &mut buffers.pair_buffer,
+        &mut buffers.grouped_variables,
+        &mut buffers.groups,
     )?;
-    let mut last = last_active_at(storage, at).disjoint;
-    while last != 0 {
-        let entry = storage.entries.entry(last as usize - 1);
-        add_group(
-            &buffers.recorded,
-            entry.symbols,
-            &mut buffers.grouped_variables,
-            &mut buffers.groups,
-        )?;
-        last = entry.before.last_active.disjoint;
-    }
-    buffers.groups.reverse();
-    buffers.whole = true;
-    Ok(())
+    Ok(buffers.whole)
 }
 
 /// Finds the parts of an assertion or `$e` that is appended to the statements, by the numbers of
-/// its symbols: all mandatory hypotheses and groups of an assertion if these are few; else, and for
-/// a `$e`, the `$f` of its own variables. Other statements have none.
+/// its symbols: all mandatory hypotheses and pairs of an assertion if these are few; else, and for a
+/// `$e`, the `$f` of its own variables. Other statements have none.
 ///
 /// Errors: an allocation fails.
 pub fn fill_parts(
@@ -178,11 +167,11 @@ pub fn fill_parts(
     };
     find_floats(
         storage,
-        &mut buffers.recorded,
+        &mut buffers.looked_up,
         &mut buffers.hypotheses,
         codes,
     )?;
-    if is_essential(stmt) || !are_few(storage) {
+    if is_essential(stmt) {
         return encode_hypotheses(
             storage,
             &buffers.hypotheses,
@@ -192,8 +181,7 @@ pub fn fill_parts(
     }
     let at = storage.entries.len() + 1;
     add_essentials(storage, at, &mut buffers.hypotheses)?;
-    fill_from_hypotheses(storage, at, buffers)?;
-    if buffers.size() <= MAX_KEPT {
+    if fill_whole(storage, at, buffers)? {
         return Ok(());
     }
     fill_own(storage, buffers, codes)
@@ -208,7 +196,7 @@ fn fill_own(storage: &Storage, buffers: &mut FrameBuffers, codes: &[u32]) -> Res
     buffers.clear();
     find_floats(
         storage,
-        &mut buffers.recorded,
+        &mut buffers.looked_up,
         &mut buffers.hypotheses,
         codes,
     )?;
@@ -220,6 +208,6 @@ fn fill_own(storage: &Storage, buffers: &mut FrameBuffers, codes: &[u32]) -> Res
     )
 }
 
-/// The parts of an assertion are kept whole only if they take at most this many numbers
-/// (`FrameBuffers::size`).
-const MAX_KEPT: usize = 128;
+/// The parts of an assertion are kept whole only if its mandatory hypotheses, and the numbers in the
+/// lists of its mandatory pairs, are together at most this many.
+const MAX_KEPT: usize = 64;

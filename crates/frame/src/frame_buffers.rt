@@ -2,12 +2,13 @@
 ghost use Rattle.std.specs.Prelude.{◌≡◌, length, false};
 ghost use Rattle.{entries.specs.Entries.AreShapedParts, entries.specs.Entries.assertion_of, entries.specs.Entries.no_parts};
 
+use crate::pair_buffer::PairBuffer;
 use entries::{AssertionParts, BufferPart};
 use scope::Stack;
 use std::alloc::Global;
 use std::marker::Model;
 
-/// The mandatory hypotheses and groups of an assertion, in buffers that are reused for one
+/// The mandatory hypotheses and pairs of an assertion, in buffers that are reused for one
 /// assertion after another.
 ///
 /// Contracts see them in the form in which the parts of an assertion are kept (`Assertion` of
@@ -16,18 +17,19 @@ use std::marker::Model;
 pub struct FrameBuffers {
     /// Whether the parts are whole, as `AssertionParts` says.
     pub(crate) whole: bool,
-    /// The symbols whose `$f` were looked up; later the variables of the hypotheses. A buffer only:
-    /// contracts do not see it.
-    pub(crate) recorded: Stack,
+    /// The symbols whose `$f` were looked up. A buffer only: contracts do not see it.
+    pub(crate) looked_up: Stack,
+    /// For the mandatory pairs of one variable after another. A buffer only, too.
+    pub(crate) pair_buffer: PairBuffer,
     /// The positions of the hypotheses, in order.
     pub(crate) hypotheses: Vec<u32>,
     /// Each hypothesis as one number: the variable of a `$f`, or the position of a `$e`.
     pub(crate) numbered_hypotheses: Vec<u32>,
     /// The typecode of each hypothesis.
     pub(crate) typecodes: Vec<u32>,
-    /// The variables whose images must be disjoint, one group after another.
+    /// The lists of the mandatory pairs, one after another.
     pub(crate) grouped_variables: Vec<u32>,
-    /// For each group, its range in `grouped_variables`.
+    /// For each list, its range in `grouped_variables`.
     pub(crate) groups: Vec<BufferPart>,
 }
 
@@ -53,7 +55,8 @@ impl FrameBuffers {
     pub fn new(alloc: Global) -> FrameBuffers {
         FrameBuffers {
             whole: false,
-            recorded: Stack::new(alloc),
+            looked_up: Stack::new(alloc),
+            pair_buffer: PairBuffer::new(alloc),
             hypotheses: Vec::new(alloc),
             numbered_hypotheses: Vec::new(alloc),
             typecodes: Vec::new(alloc),
@@ -79,16 +82,6 @@ impl FrameBuffers {
             grouped_variables: &self.grouped_variables,
             groups: &self.groups,
         }
-    }
-
-    /// Returns how many numbers the parts take when they are kept: three for a hypothesis, two for
-    /// a group, and one for each variable of a group.
-    pub(crate) fn size(&self) -> usize {
-        let hypotheses = self.hypotheses.len().saturating_mul(3);
-        let groups = self.groups.len().saturating_mul(2);
-        hypotheses
-            .saturating_add(groups)
-            .saturating_add(self.grouped_variables.len())
     }
 
     /// Empties the buffers, which keep their capacity.

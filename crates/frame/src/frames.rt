@@ -1,19 +1,21 @@
 //! The statements of a database by position.
 ghost use Rattle.std.specs.Prelude.{◌≡◌, ◌≤◌, ◌<◌, [], true, IfOk, length, Some, option_map, OnOk, IfSome};
-ghost use Rattle.{mm_read.specs.declared.stmt.Stmt.Stmt as Statement, names.specs.Codes.name_at, names.specs.Codes.decode, scope.specs.Active.before, scope.specs.Active.stmt_at, scope.specs.Active.label_of, scope.specs.Active.expr_of, frame.specs.AtPosition.IsPosition, frame.specs.AtPosition.ArePositions, frame.specs.AtPosition.HasLegalProperties, frame.specs.AtPosition.IsMeaning, frame.specs.FrameOf.HasAssertion, frame.specs.FrameOf.hypotheses, frame.specs.AssertionView.AreBuffersOf, frame.specs.AssertionView.IsViewOf, frame.specs.Below.AreBelow};
+ghost use Rattle.{mm_read.specs.declared.stmt.Stmt.Stmt as Statement, names.specs.Codes.name_at, names.specs.Codes.decode, scope.specs.Active.before, scope.specs.Active.stmt_at, scope.specs.Active.label_of, scope.specs.Active.expr_of, frame.specs.AtPosition.IsPosition, frame.specs.AtPosition.ArePositions, frame.specs.AtPosition.HasLegalProperties, frame.specs.AtPosition.IsMeaning, frame.specs.FrameOf.HasAssertion, frame.specs.FrameOf.hypotheses, frame.specs.AssertionView.AreBuffersOf, frame.specs.AssertionView.AreGroupsOf, frame.specs.AssertionView.IsViewOf, frame.specs.Below.AreBelow};
 
-use crate::assertion_parts::fill_from_hypotheses;
+use crate::assertion_parts::encode_hypotheses;
 use crate::at_position::is_active_at;
+use crate::disjoint_groups::{DisjointGroups, find_groups};
 use crate::frame_buffers::FrameBuffers;
 use crate::mandatory::add_essentials;
 use crate::meaning::Meaning;
+use crate::pair_buffer::record_variables;
 use crate::pairs::Pairs;
 use crate::shape::has_label;
 use crate::storage::Storage;
 use crate::symbol_numbers::label_number;
 use entries::{AssertionView, Entries, Groups, Hypotheses, Kind, LastActive, Mentions};
 use mm_lex::Words;
-use scope::{Numbering, SymbolNumbers};
+use scope::{Numbering, Stack, SymbolNumbers};
 use std::alloc::{AllocError, Global};
 use std::marker::Model;
 
@@ -169,49 +171,84 @@ impl Frames {
         }
     }
 
-    /// Returns the parts of the assertion at a position, by numbers, or `None` if they are too many
-    /// to be kept whole.
+    /// Returns the parts of the assertion at a position, by numbers. Those that are not kept with it
+    /// are made in the buffers, but its pairs are not: `PairBuffer` makes them one by one.
     ///
-    /// Cost: a constant.
-    pub fn whole_view(&self, a: usize) -> Option<AssertionView<'_>>
+    /// Errors: an allocation fails. Cost: a constant; for parts that are not kept, the mandatory
+    /// hypotheses, which are sorted.
+    #[inline(always)]
+    pub fn cited_view<'a>(
+        &'a self,
+        a: usize,
+        buffers: &'a mut FrameBuffers,
+    ) -> Result<AssertionView<'a>, AllocError>
+        requires { (s : Statement) × HasAssertion self.now.statements a s }
+        ensures { IfOk result (λ view. (s : Statement) → stmt_at self.now.statements a ≡ Some s → IsViewOf self.now.statements self.now.names a s view) }
+    {
+        if let Some(view) = self.whole_view(a) {
+            return Ok(view);
+        }
+        self.fill_buffers(a, buffers)?;
+        Ok(self.buffered_view(a, buffers))
+    }
+
+    /// Returns the parts of the assertion at a position, or `None` if they are not kept whole.
+    #[inline(always)]
+    fn whole_view(&self, a: usize) -> Option<AssertionView<'_>>
         requires { (s : Statement) × HasAssertion self.now.statements a s }
         ensures { (s : Statement) → stmt_at self.now.statements a ≡ Some s → IfSome result (IsViewOf self.now.statements self.now.names a s) }
     {
         self.storage.entries.whole_view(a - 1)
     }
 
-    /// Fills the buffers with the parts of the assertion at a position, kept whole or not.
-    ///
-    /// Errors: an allocation fails. Cost: the size of its hypotheses, which are sorted, and of the
-    /// active `$d`.
-    pub fn fill_buffers(&self, a: usize, frame_buffers: &mut FrameBuffers) -> Result<(), AllocError>
+    /// Fills the buffers with the mandatory hypotheses of the assertion at a position.
+    fn fill_buffers(&self, a: usize, buffers: &mut FrameBuffers) -> Result<(), AllocError>
         requires { (s : Statement) × HasAssertion self.now.statements a s }
-        ensures { OnOk result (AreBuffersOf self.now.statements self.now.names a frame_buffers.new) }
+        ensures { OnOk result (AreBuffersOf self.now.statements self.now.names a buffers.new) }
     {
-        frame_buffers.clear();
-        self.mandatory(a, &mut frame_buffers.hypotheses)?;
-        fill_from_hypotheses(&self.storage, a, frame_buffers)
+        buffers.clear();
+        self.mandatory(a, &mut buffers.hypotheses)?;
+        encode_hypotheses(
+            &self.storage,
+            &buffers.hypotheses,
+            &mut buffers.numbered_hypotheses,
+            &mut buffers.typecodes,
+        )
     }
 
-    /// Returns the parts of the assertion at a position, from the buffers that `fill_buffers`
-    /// filled for it.
-    ///
-    /// Cost: a constant.
-    pub fn buffered_view<'a>(
-        &'a self,
-        a: usize,
-        frame_buffers: &'a FrameBuffers,
-    ) -> AssertionView<'a>
+    /// Returns the parts of the assertion at a position, from the buffers that `fill_buffers` filled
+    /// for it.
+    fn buffered_view<'a>(&'a self, a: usize, buffers: &'a FrameBuffers) -> AssertionView<'a>
         requires assertion { (s : Statement) × HasAssertion self.now.statements a s }
-        requires frame_buffers { AreBuffersOf self.now.statements self.now.names a frame_buffers.now }
+        requires buffers { AreBuffersOf self.now.statements self.now.names a buffers.now }
         ensures { (s : Statement) → stmt_at self.now.statements a ≡ Some s → IsViewOf self.now.statements self.now.names a s result }
     {
         AssertionView {
-            typecodes: &frame_buffers.typecodes,
-            hypotheses: Hypotheses::new(&frame_buffers.numbered_hypotheses),
+            typecodes: &buffers.typecodes,
+            hypotheses: Hypotheses::new(&buffers.numbered_hypotheses),
             conclusion: self.expr(a),
-            groups: Groups::new(&frame_buffers.groups, &frame_buffers.grouped_variables),
+            pairs_listed: false,
+            pairs: Groups::new(&[], &[]),
         }
+    }
+
+    /// Returns the groups of the assertion at a position: for each active `$d` its mandatory
+    /// variables, if they are two or more.
+    ///
+    /// Errors: an allocation fails. Cost: the mandatory hypotheses, which are sorted, and the symbols
+    /// of the active `$d`.
+    pub fn groups(&self, a: usize) -> Result<DisjointGroups, AllocError>
+        requires { (s : Statement) × HasAssertion self.now.statements a s }
+        ensures { IfOk result (λ groups. (s : Statement) → stmt_at self.now.statements a ≡ Some s → AreGroupsOf self.now.statements self.now.names a s groups) }
+    {
+        let mut positions = Vec::new(self.alloc);
+        self.mandatory(a, &mut positions)?;
+        let mut numbers = Vec::new(self.alloc);
+        let mut typecodes = Vec::new(self.alloc);
+        encode_hypotheses(&self.storage, &positions, &mut numbers, &mut typecodes)?;
+        let mut variables = Stack::new(self.alloc);
+        record_variables(&Hypotheses::new(&numbers), &mut variables)?;
+        find_groups(self.alloc, &self.storage, a, &variables)
     }
 
     /// Appends the positions of the mandatory hypotheses of the assertion at a position, in order,

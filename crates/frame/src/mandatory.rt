@@ -80,25 +80,3 @@ pub fn add_essentials(storage: &Storage, at: usize, list: &mut Vec<u32>) -> Resu
     sort_unique(list);
     Ok(())
 }
-
-/// The largest number of active `$d` whose groups are kept with an assertion; together they have
-/// at most twice as many symbols.
-const MAX_KEPT_DISJOINT: usize = 64;
-
-/// Returns whether to try to keep the parts of an assertion: `false` if the active `$d` are many.
-/// Only the cost depends on it.
-///
-/// Cost: a constant; at most 64 `$d` are gone through.
-pub fn are_few(storage: &Storage) -> bool {
-    let mut disjoint = storage.last_active.disjoint as usize;
-    let mut variables = 0usize;
-    for _ in 0..MAX_KEPT_DISJOINT {
-        if disjoint == 0 || disjoint > storage.entries.len() || variables > 2 * MAX_KEPT_DISJOINT {
-            break;
-        }
-        let entry = storage.entries.entry(disjoint - 1);
-        variables = variables.saturating_add(entry.symbols.len());
-        disjoint = entry.before.last_active.disjoint as usize;
-    }
-    disjoint == 0 && variables <= 2 * MAX_KEPT_DISJOINT
-}

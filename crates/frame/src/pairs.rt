@@ -22,7 +22,7 @@ pub struct Pairs<'a> {
 }
 
 impl<'a> Model for Pairs<'a> {
-    ghost use Rattle.std.specs.Prelude.{◌≤◌, length};
+    ghost use Rattle.std.specs.Prelude.{◌+◌, ◌≤◌, length};
     ghost use Rattle.{names.specs.Codes.AreDistinct, scope.specs.Active.before, frame.specs.Parts.Numbered, frame.specs.Stored.EntryMeanings.names_in, frame.specs.Stored.EntryMeanings.statements_of, frame.specs.Stored.Whole.AreStored};
 
     ghost Value = { Numbered };
@@ -32,7 +32,7 @@ impl<'a> Model for Pairs<'a> {
     ghost invariant = { λ a. AreStored a.storage.now
         × AreDistinct (names_in a.storage.now)
         × (1 ≤ a.at)
-        × (a.at ≤ length (statements_of a.storage.now)) };
+        × (a.at ≤ length (statements_of a.storage.now) + 1) };
 }
 
 impl<'a> Pairs<'a> {

@@ -47,14 +47,14 @@ impl Stack {
     }
 
     /// Returns how many numbers there are.
-    pub(crate) fn len(&self) -> usize
+    pub fn len(&self) -> usize
         ensures { result ≡ length self.now }
     {
         self.numbers.len()
     }
 
     /// Returns the numbers in order.
-    pub(crate) fn as_slice(&self) -> &[u32]
+    pub fn as_slice(&self) -> &[u32]
         ensures { result.now ≡ self.now }
     {
         self.numbers.as_slice()

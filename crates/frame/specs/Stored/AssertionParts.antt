@@ -1,14 +1,16 @@
 -- The parts of an assertion, by numbers.
 -- Internal to the code: no public clause cites it.
-use Rattle.std.specs.Prelude.{◌≡◌, ℕ, ◌-◌, ◌==◌, Bool, true, false, if◌then◌else◌, List, [], ◌∷◌, ◌++◌, map, filter, get_or, slice_get, Option, Some, None}
+use Rattle.std.specs.Prelude.{◌≡◌, ℕ, ◌-◌, ◌==◌, ◌&&◌, not, Bool, true, false, if◌then◌else◌, List, [], ◌∷◌, ◌++◌, map, filter, get_or, slice_get, Option, Some, None}
 use Rattle.frame.specs.Words.{has_name, Stmt, Expr, Database, expr_of, active, is_essential, Hypothesis, Kind, Float, Ess, Axiom, Prove, Entry, Assertion, list_any}
 use Rattle.mm_read.specs.declared.stmt.Stmt.TheVariants as stmt
 use Rattle.frame.specs.FrameOf.{hypotheses}
 use Rattle.entries.specs.declared.assertion_view.Hypothesis.TheVariants as hypothesis
 use Rattle.frame.specs.AssertionView.{typecode_of}
 use Rattle.frame.specs.LastActive.{actives, is_disj}
+use Rattle.frame.specs.ListsOfPairs.{have_both}
+use Rattle.frame.specs.MandatoryPairs.{float_variables, has_two_or_more_items, pairs_by, AreReordered}
 
--- ---- hypotheses and groups
+-- ---- hypotheses, groups and pairs
 
 -- the number is the variable of that `$f`
 abbrev pub is_typed_by : ℕ → Hypothesis → Bool
@@ -18,10 +20,6 @@ is_typed_by c (hypothesis.Essential p) = false
 -- the number is the variable of one of the `$f`
 abbrev pub is_typed : List Hypothesis → ℕ → Bool
 is_typed hs c = list_any (is_typed_by c) hs
-
--- those of the numbers that are variables of the `$f`
-abbrev pub typed : List Hypothesis → List ℕ → List ℕ
-typed hs codes = filter (is_typed hs) codes
 
 -- those of the numbers that are in the list ns
 abbrev pub recorded_in : List ℕ → List ℕ → List ℕ
@@ -36,20 +34,30 @@ option_symbols (Some e) = e.symbols
 abbrev pub symbols_at : List Entry → ℕ → List ℕ
 symbols_at es p = option_symbols (slice_get es (p - 1))
 
--- the list has two or more items
-abbrev pub has_two_or_more_items : {A : Type 0} → List A → Bool
-has_two_or_more_items [] = false
-has_two_or_more_items (x ∷ []) = false
-has_two_or_more_items (x ∷ y ∷ xs) = true
-
 -- the groups, and one more of those symbols that are among the variables, if these are two or more
 abbrev pub with_group : List ℕ → List ℕ → List (List ℕ) → List (List ℕ)
 with_group variables codes groups =
     if has_two_or_more_items (recorded_in variables codes) then groups ++ recorded_in variables codes ∷ [] else groups
 
--- for each list its numbers that are variables of the `$f`, if these are two or more
-abbrev pub groups_by : List Hypothesis → List (List ℕ) → List (List ℕ)
-groups_by hs lists = filter has_two_or_more_items (map (typed hs) lists)
+-- for each list its numbers that are among the variables, if these are two or more
+abbrev pub groups_in : List ℕ → List (List ℕ) → List (List ℕ)
+groups_in variables lists = filter has_two_or_more_items (map (recorded_in variables) lists)
+
+-- the lists, and one more, if it has two or more numbers
+abbrev pub with_list : List ℕ → List (List ℕ) → List (List ℕ)
+with_list list lists = if has_two_or_more_items list then lists ++ list ∷ [] else lists
+
+-- the symbols of each `$d` that is active after S
+abbrev pub disjoint_symbols : List Entry → Database → List (List ℕ)
+disjoint_symbols es S = map (λ q. symbols_at es q.0) (actives is_disj S)
+
+-- the numbers are different, and both are in one of the lists
+abbrev pub are_together : List (List ℕ) → ℕ → ℕ → Bool
+are_together lists x y = not (x == y) && have_both lists x y
+
+-- the mandatory pairs of an assertion after the statements S with these hypotheses, as lists
+abbrev pub stored_pairs : List Entry → Database → List Hypothesis → List (List ℕ)
+stored_pairs es S hs = pairs_by (are_together (disjoint_symbols es S)) (float_variables hs)
 
 -- the typecode of the statement at a position
 abbrev pub typecode_at : List Entry → ℕ → ℕ
@@ -88,7 +96,7 @@ pub record IsKeptAs (es : List Entry) (S : Database) (s : Stmt) (d : Assertion) 
   pub hypotheses_kept : d.hypotheses ≡ kept_with d.whole S s
   pub numbered_kept : d.numbered_hypotheses ≡ map (hypothesis_at es) d.hypotheses
   pub typecodes_kept : d.typecodes ≡ map (typecode_at es) d.hypotheses
-  pub groups_kept : d.whole ≡ true → d.groups ≡ groups_by d.numbered_hypotheses (map (λ q. symbols_at es q.0) (actives is_disj S))
+  pub pairs_kept : d.whole ≡ true → AreReordered (stored_pairs es S d.numbered_hypotheses) d.groups
   pub own_kept : is_essential s ≡ true → d.whole ≡ false
 
 -- statements of the kind are kept with hypotheses

@@ -6,7 +6,8 @@ use Rattle.frame.specs.Words.{Database, is_active, is_essential, Kind, Float, Es
 use Rattle.frame.specs.Ascending.{Ascends}
 use Rattle.frame.specs.LastActive.{actives, is_disj}
 use Rattle.frame.specs.Stored.EntryMeanings.{is_float_with, last_where}
-use Rattle.frame.specs.Stored.AssertionParts.{symbols_at, groups_by, typecode_at, hypothesis_at}
+use Rattle.frame.specs.MandatoryPairs.{AreReordered}
+use Rattle.frame.specs.Stored.AssertionParts.{stored_pairs, typecode_at, hypothesis_at}
 
 -- ---- lists of positions
 
@@ -88,15 +89,15 @@ abbrev pub AreHypotheses : List Entry → List ℕ → Type 0
 AreHypotheses es [] = Unit {0}
 AreHypotheses es (p ∷ ps) = ((e : Entry) × (1 ≤ p) × (slice_get es (p - 1) ≡ Some e) × (is_hypothesis_entry e.kind ≡ true)) × AreHypotheses es ps
 
--- the parts have the hypotheses as numbers and their typecodes; if they are whole, they also have
--- the groups of disjoint variables by the `$d` that are active after S
-pub record AreDescribed (es : List Entry) (S : Database) (d : Assertion) : Type 0 where
+-- the parts have these hypotheses, also as numbers, and their typecodes
+pub record AreDescribed (es : List Entry) (ps : List ℕ) (d : Assertion) : Type 0 where
+  pub same : d.hypotheses ≡ ps
   pub numbered_made : d.numbered_hypotheses ≡ map (hypothesis_at es) d.hypotheses
   pub typecodes_made : d.typecodes ≡ map (typecode_at es) d.hypotheses
-  pub groups_made : d.whole ≡ true → d.groups ≡ groups_by d.numbered_hypotheses (map (λ q. symbols_at es q.0) (actives is_disj S))
 
--- the parts of an assertion after the statements S, with these mandatory hypotheses, are whole
+-- the parts of an assertion after the statements S, with these mandatory hypotheses, are whole: they
+-- also have the mandatory pairs by the `$d` that are active after S
 pub record IsFilledFrom (es : List Entry) (S : Database) (ps : List ℕ) (d : Assertion) : Type 0 where
   pub is_whole : d.whole ≡ true
-  pub same : d.hypotheses ≡ ps
-  pub described : AreDescribed es S d
+  pub described : AreDescribed es ps d
+  pub pairs_made : AreReordered (stored_pairs es S d.numbered_hypotheses) d.groups

@@ -23,6 +23,6 @@ returns c = λ s is.
       hypotheses_kept = own (goal.at.returns c).In_ok-find_floats ∙ (ap (floats_in (statements_of k)) is ∙ ap (λ b. kept_with b (statements_of k) s) (sym partial));
       numbered_kept = numbered_hypotheses ∙ ap (map (hypothesis_at k.entries)) c.deref.ensures.value;
       typecodes_kept = typecodes ∙ ap (map (typecode_at k.entries)) c.deref.ensures.value;
-      groups_kept = λ whole. absurd (false≢true (sym partial ∙ whole));
+      pairs_kept = λ whole. absurd (false≢true (sym partial ∙ whole));
       own_kept = λ e. partial;
     })) c.encode_hypotheses.ensures.numbered_hypotheses c.encode_hypotheses.ensures.typecodes

@@ -46,13 +46,13 @@ returns-then-is_essential c =
       hypotheses_kept = own w list c.in_ok-find_floats.ensures ∙ (ap (floats_in (statements_of k)) (found w).1 ∙ ap (λ b. kept_with b (statements_of k) s) (sym partial));
       numbered_kept = numbered_hypotheses ∙ ap (map (hypothesis_at k.entries)) c.deref.ensures.value;
       typecodes_kept = typecodes ∙ ap (map (typecode_at k.entries)) c.deref.ensures.value;
-      groups_kept = λ whole. absurd (false≢true (sym partial ∙ whole));
+      pairs_kept = λ whole. absurd (false≢true (sym partial ∙ whole));
       own_kept = λ e. partial;
     })) c.encode_hypotheses.ensures.numbered_hypotheses c.encode_hypotheses.ensures.typecodes
 
-pub fill_from_hypotheses-requires-clause-hypotheses : goal.fill_from_hypotheses-requires-clause-hypotheses
-fill_from_hypotheses-requires-clause-hypotheses c =
-    let w = (goal.at.fill_from_hypotheses-requires-clause-hypotheses c).In-Some in
+pub fill_whole-requires-clause-hypotheses : goal.fill_whole-requires-clause-hypotheses
+fill_whole-requires-clause-hypotheses c =
+    let w = (goal.at.fill_whole-requires-clause-hypotheses c).In-Some in
     let k = c.args.storage.now in
     let S = statements_of k in
     let n = length-map k.entries (stmt_of (names_in k) (labels_in k)) in
@@ -61,9 +61,9 @@ fill_from_hypotheses-requires-clause-hypotheses c =
     subst (AreHypotheses k.entries) (sym (all w list (collected-from k.entries S (take (c.len-at.result + 1 - 1) S) c.in-Some.codes.now c.find_floats.new.list.items list before c.in_ok-find_floats.ensures c.in_ok-add_essentials.ensures)))
     (hypotheses-are (names_in k) (labels_in k) k.entries (bare c.args.stmt.now))
 
-pub returns-then-size-le-MAX_KEPT : goal.returns-then-size-le-MAX_KEPT
-returns-then-size-le-MAX_KEPT c =
-    let w = (goal.at.returns-then-size-le-MAX_KEPT c).In-Some in
+pub returns-then-branch : goal.returns-then-branch
+returns-then-branch c =
+    let w = (goal.at.returns-then-branch c).In-Some in
     let k = c.args.storage.now in
     let S = statements_of k in
     let s = bare c.args.stmt.now in
@@ -71,8 +71,8 @@ returns-then-size-le-MAX_KEPT c =
     let list = c.add_essentials.new.list.items in
     let before = take_all (c.len-at.result + 1 - 1) S (omega (arith, n, c.len-at.ensures.len)) in
     let found = collected-from k.entries S (take (c.len-at.result + 1 - 1) S) c.in-Some.codes.now c.find_floats.new.list.items list before c.in_ok-find_floats.ensures c.in_ok-add_essentials.ensures in
-    parts-for k s c.fill_from_hypotheses.new.buffers (filled-kept k.entries S s list c.fill_from_hypotheses.new.buffers (all w list found) (λ e. false≢true (sym c.if-is_essential.false ∙ (c.is_essential.ensures ∙ (sym (essential-bare c.args.stmt.now) ∙ e))))
-    (subst (λ T. IsFilledFrom k.entries T list c.fill_from_hypotheses.new.buffers) before c.in_ok-fill_from_hypotheses.ensures))
+    parts-for k s c.fill_whole.new.buffers (filled-kept k.entries S s list c.fill_whole.new.buffers (all w list found) (λ e. false≢true (sym c.if-is_essential.false ∙ (c.is_essential.ensures ∙ (sym (essential-bare c.args.stmt.now) ∙ e))))
+    (subst (λ T. IsFilledFrom k.entries T list c.fill_whole.new.buffers) before (c.in_ok-fill_whole.ensures c.if-branch.true)))
 
 pub fill_own-requires-clause-codes : goal.fill_own-requires-clause-codes
 fill_own-requires-clause-codes c = (found (goal.at.fill_own-requires-clause-codes c).In-Some).0

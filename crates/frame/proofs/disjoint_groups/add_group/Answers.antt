@@ -1,6 +1,6 @@
 use Rattle.frame.proofs.Words.{◌∙◌, sym, subst, length, AreSpansIn, ◌++◌, ap, arith, recorded_in, take_all}
 use Rattle.frame.proofs.MakeLemmas.{group-added, spans-more}
-use Rattle.frame.proofs.assertion_parts.add_group.Goals as goal
+use Rattle.frame.proofs.disjoint_groups.add_group.Goals as goal
 
 pub returns-in_ok-push-2 : goal.returns-in_ok-push-2
 returns-in_ok-push-2 c =

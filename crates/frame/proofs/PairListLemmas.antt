@@ -1,0 +1,394 @@
+-- The lists of the mandatory pairs of an assertion, by numbers.
+use Rattle.frame.proofs.Words.{◌≡◌, ℕ, zero, suc, ◌+◌, ◌<◌, ◌≤◌, Bool, true, false, cond, not, ◌||◌, ◌&&◌, ◌==◌, List, [], ◌∷◌, ◌++◌, length, map, filter, take, slice_get, get_or, drop, Some, refl, sym, ◌∙◌, ap, subst, arith, append-nil, append_assoc, map-append, filter-append, list_any, list_any_more, or-false, or_right, or_parts, or_from, and-false, nat_lt, true≢false, false_from_ne_true, any-filter_same, take_all, Result, Ok, Err, OnOk, OnErr, AddsBefore, IsPairList, Hypothesis, is_typed, is_typed_by, AreBelow, AllBelow, Name, name_at, decode, Numbered, is_pair, is_numbered_pair, has_number, with_number, with_floats, float_variables, pair_lists, has_two_or_more_items, pairs_by, with_list, IsEachOnce, HasEachOnce, IsReordered, AreReordered}
+use Rattle.entries.specs.declared.assertion_view.Hypothesis.TheVariants.{Float, Essential}
+
+-- ---- numbers in a list
+
+pub own : (c : ℕ) → (c == c) ≡ true
+own c = grind arith
+
+pub turn : (c d : ℕ) → (c == d) ≡ (d == c)
+turn c d = grind arith
+
+pub has-turn : (list : List ℕ) (c : ℕ) → list_any (λ d. c == d) list ≡ has_number list c
+has-turn [] c = refl
+has-turn (x ∷ xs) c = ap (λ b. b || list_any (λ d. c == d) xs) (turn c x) ∙ ap (λ b. (x == c) || b) (has-turn xs c)
+
+pub has-append : (xs ys : List ℕ) (c : ℕ) → has_number (xs ++ ys) c ≡ (has_number xs c || has_number ys c)
+has-append [] ys c = refl
+has-append (x ∷ xs) ys c = ap (λ b. (x == c) || b) (has-append xs ys c) ∙ shuffle (x == c) (has_number xs c) (has_number ys c)
+  where
+    shuffle : (a b d : Bool) → (a || (b || d)) ≡ ((a || b) || d)
+    shuffle a b d = grind arith
+
+pub below-each : (n : ℕ) (xs : List ℕ) → ((c : ℕ) → has_number xs c ≡ true → c < n) → AreBelow n xs
+below-each n [] h = tt
+below-each n (x ∷ xs) h = (h x (ap (λ b. b || has_number xs x) (own x)), below-each n xs (λ c k. h c (rw k (or_true (x == c)))))
+  where
+    or_true : (b : Bool) → (b || true) ≡ true
+    or_true b = grind arith
+
+pub each-below : (n : ℕ) (xs : List ℕ) (c : ℕ) → AreBelow n xs → has_number xs c ≡ true → c < n
+each-below n [] c b h = absurd (true≢false (sym h))
+each-below n (x ∷ xs) c b h = by (x == c) refl h (each-below n xs c b.1)
+  where
+    by : (t : Bool) → (x == c) ≡ t → (t || has_number xs c) ≡ true → (has_number xs c ≡ true → c < n) → c < n
+    by true e k more = let low = b.0 in let same : x ≡ c = grind (arith, e) in omega (arith, low, same)
+    by false e k more = more k
+
+pub once-push : (xs : List ℕ) (c : ℕ) → IsEachOnce xs → has_number xs c ≡ false → IsEachOnce (xs ++ c ∷ [])
+once-push [] c once none = (refl, tt)
+once-push (x ∷ xs) c once none =
+    let p = parts (x == c) (has_number xs c) none in
+    (has-append xs (c ∷ []) x ∙ ap (λ b. b || ((c == x) || false)) once.0 ∙ ap (λ b. b || false) (turn c x ∙ p.0), once-push xs c once.1 p.1)
+  where
+    parts : (a b : Bool) → (a || b) ≡ false → (a ≡ false) × (b ≡ false)
+    parts false b h = (refl, h)
+    parts true b h = absurd (true≢false h)
+
+-- ---- the variables of the `$f`
+
+with-number-has : (found : List ℕ) (x c : ℕ) → has_number (with_number found x) c ≡ (has_number found c || (c == x))
+with-number-has found x c = by (has_number found x) refl
+  where
+    by : (t : Bool) → has_number found x ≡ t → has_number (cond t found (found ++ x ∷ [])) c ≡ (has_number found c || (c == x))
+    by false e = has-append found (x ∷ []) c ∙ ap (λ b. has_number found c || b) (or-false (x == c) ∙ turn x c)
+    by true e = same (c == x) refl
+      where
+        same : (s : Bool) → (c == x) ≡ s → has_number found c ≡ (has_number found c || s)
+        same false k = sym (or-false (has_number found c))
+        same true k = let one : c ≡ x = grind (arith, k) in rw (one, e) refl
+
+with-floats-has : (found : List ℕ) (hs : List Hypothesis) (c : ℕ) → has_number (with_floats found hs) c ≡ (has_number found c || is_typed hs c)
+with-floats-has found [] c = sym (or-false (has_number found c))
+with-floats-has found (Float x ∷ hs) c = with-floats-has (with_number found x) hs c ∙ ap (λ b. b || is_typed hs c) (with-number-has found x c) ∙ shuffle (has_number found c) (c == x) (is_typed hs c)
+  where
+    shuffle : (a b d : Bool) → ((a || b) || d) ≡ (a || (b || d))
+    shuffle a b d = grind arith
+with-floats-has found (Essential p ∷ hs) c = with-floats-has found hs c
+
+-- a number is one of the variables exactly if it is that of a `$f`
+pub floats-typed : (hs : List Hypothesis) (c : ℕ) → has_number (float_variables hs) c ≡ is_typed hs c
+floats-typed hs c = with-floats-has [] hs c
+
+pub with-number-once : (found : List ℕ) (x : ℕ) → IsEachOnce found → IsEachOnce (with_number found x)
+with-number-once found x once = by (has_number found x) refl
+  where
+    by : (t : Bool) → has_number found x ≡ t → IsEachOnce (cond t found (found ++ x ∷ []))
+    by true e = once
+    by false e = once-push found x once e
+
+drop-next : {A : Type 0} (xs : List A) (n : ℕ) (x : A) → slice_get xs n ≡ Some x → drop n xs ≡ x ∷ drop (n + 1) xs
+drop-next {A = A} xs n x h = let one : suc n ≡ n + 1 = omega arith in at xs n h ∙ ap (λ m. x ∷ drop m xs) one
+  where
+    at : (ys : List A) (m : ℕ) → slice_get ys m ≡ Some x → drop m ys ≡ x ∷ drop (suc m) ys
+    at [] m h = cc
+    at (y ∷ ys) zero h = let same : y ≡ x = cc in rw same refl
+    at (y ∷ ys) (suc m) h = at ys m h
+
+-- the next hypothesis is a `$f`
+pub floats-next : (hs : List Hypothesis) (n x : ℕ) (found : List ℕ) (h : Hypothesis) → slice_get hs n ≡ Some h → h ≡ Float x → with_floats (with_number found x) (drop (n + 1) hs) ≡ with_floats found (drop n hs)
+floats-next hs n x found h at is = sym (ap (with_floats found) (drop-next hs n (Float x) (at ∙ ap Some is)))
+
+-- the next hypothesis is none
+pub floats-skip : (hs : List Hypothesis) (n : ℕ) (found : List ℕ) (h : Hypothesis) → slice_get hs n ≡ Some h → ((x : ℕ) → h ≡ Float x → ⊥) → with_floats found (drop (n + 1) hs) ≡ with_floats found (drop n hs)
+floats-skip hs n found (Float x) at none = absurd (none x refl)
+floats-skip hs n found (Essential p) at none = sym (ap (with_floats found) (drop-next hs n (Essential p) at))
+
+-- ---- one list for each variable
+
+pub pair-lists-length : {A : Type 0} (p : A → A → Bool) (before xs : List A) → length (pair_lists p before xs) ≡ length xs
+pair-lists-length p before [] = refl
+pair-lists-length p before (x ∷ xs) = ap suc (pair-lists-length p (before ++ x ∷ []) xs)
+
+pub pair-lists-at : (p : ℕ → ℕ → Bool) (before xs : List ℕ) (k x : ℕ) → slice_get xs k ≡ Some x → slice_get (pair_lists p before xs) k ≡ Some (x ∷ filter (p x) (before ++ take k xs))
+pair-lists-at p before [] k x h = cc
+pair-lists-at p before (y ∷ xs) zero x h = let same : y ≡ x = cc in rw (same, append-nil before) refl
+pair-lists-at p before (y ∷ xs) (suc k) x h = pair-lists-at p (before ++ y ∷ []) xs k x h ∙ ap (λ l. Some (x ∷ filter (p x) l)) (append_assoc before (y ∷ []) (take k xs))
+
+filter-same : (n : ℕ) (p q : ℕ → Bool) (xs : List ℕ) → ((y : ℕ) → y < n → p y ≡ q y) → AreBelow n xs → filter p xs ≡ filter q xs
+filter-same n p q [] h b = refl
+filter-same n p q (x ∷ xs) h b = rw (h x b.0, filter-same n p q xs h b.1) refl
+
+below-push : (n : ℕ) (xs : List ℕ) (x : ℕ) → AreBelow n xs → x < n → AreBelow n (xs ++ x ∷ [])
+below-push n [] x b l = (l, tt)
+below-push n (y ∷ xs) x b l = (b.0, below-push n xs x b.1 l)
+
+-- relations that agree on the numbers give the same lists
+pub pair-lists-same : (n : ℕ) (p q : ℕ → ℕ → Bool) (before xs : List ℕ) → ((x y : ℕ) → x < n → y < n → p x y ≡ q x y) → AreBelow n before → AreBelow n xs → pair_lists p before xs ≡ pair_lists q before xs
+pair-lists-same n p q before [] h a b = refl
+pair-lists-same n p q before (x ∷ xs) h a b =
+    ap (λ l. (x ∷ l) ∷ pair_lists p (before ++ x ∷ []) xs) (filter-same n (p x) (q x) before (λ y l. h x y b.0 l) a)
+    ∙ ap (λ l. (x ∷ filter (q x) before) ∷ l) (pair-lists-same n p q (before ++ x ∷ []) xs h (below-push n before x a b.0) b.1)
+
+filter-below : (n : ℕ) (p : ℕ → Bool) (xs : List ℕ) → AreBelow n xs → AreBelow n (filter p xs)
+filter-below n p [] b = tt
+filter-below n p (x ∷ xs) b = by (p x) (filter-below n p xs b.1)
+  where
+    by : (t : Bool) → AreBelow n (filter p xs) → AreBelow n (cond t (x ∷ filter p xs) (filter p xs))
+    by true more = (b.0, more)
+    by false more = more
+
+pair-lists-below : (n : ℕ) (p : ℕ → ℕ → Bool) (before xs : List ℕ) → AreBelow n before → AreBelow n xs → AllBelow n (pair_lists p before xs)
+pair-lists-below n p before [] a b = tt
+pair-lists-below n p before (x ∷ xs) a b = ((b.0, filter-below n (p x) before a), pair-lists-below n p (before ++ x ∷ []) xs (below-push n before x a b.0) b.1)
+
+all-below-filter : (n : ℕ) (p : List ℕ → Bool) (lists : List (List ℕ)) → AllBelow n lists → AllBelow n (filter p lists)
+all-below-filter n p [] b = tt
+all-below-filter n p (x ∷ xs) b = by (p x) (all-below-filter n p xs b.1)
+  where
+    by : (t : Bool) → AllBelow n (filter p xs) → AllBelow n (cond t (x ∷ filter p xs) (filter p xs))
+    by true more = (b.0, more)
+    by false more = more
+
+pub pairs-below : (n : ℕ) (p : ℕ → ℕ → Bool) (variables : List ℕ) → AreBelow n variables → AllBelow n (pairs_by p variables)
+pairs-below n p variables b = all-below-filter n has_two_or_more_items (pair_lists p [] variables) (pair-lists-below n p [] variables tt b)
+
+-- ---- the others in another order
+
+reordered-two : (l m : List ℕ) → IsReordered l m → has_two_or_more_items m ≡ has_two_or_more_items l
+reordered-two [] m h = absurd h
+reordered-two (x ∷ xs) [] h = absurd h
+reordered-two (x ∷ []) (y ∷ []) h = refl
+reordered-two (x ∷ []) (y ∷ z ∷ ys) h = absurd (true≢false (sym (ap (λ b. b || has_number ys z) (own z)) ∙ h.1.each z))
+reordered-two (x ∷ w ∷ xs) (y ∷ []) h = absurd (true≢false (sym (ap (λ b. b || has_number xs w) (own w)) ∙ sym (h.1.each w)))
+reordered-two (x ∷ w ∷ xs) (y ∷ z ∷ ys) h = refl
+
+reordered-push : (a b : List (List ℕ)) (l m : List ℕ) → AreReordered a b → IsReordered l m → AreReordered (a ++ l ∷ []) (b ++ m ∷ [])
+reordered-push [] [] l m all one = (one, tt)
+reordered-push [] (y ∷ b) l m all one = absurd all
+reordered-push (x ∷ a) [] l m all one = absurd all
+reordered-push (x ∷ a) (y ∷ b) l m all one = (all.0, reordered-push a b l m all.1 one)
+
+-- one more list is kept if it has two or more numbers
+pub reordered-more : (a b : List (List ℕ)) (l m : List ℕ) → AreReordered (filter has_two_or_more_items a) b → IsReordered l m → AreReordered (filter has_two_or_more_items (a ++ l ∷ [])) (with_list m b)
+reordered-more a b l m all one =
+    rw (filter-append has_two_or_more_items a (l ∷ []), reordered-two l m one) (by (has_two_or_more_items l))
+  where
+    by : (t : Bool) → AreReordered (filter has_two_or_more_items a ++ cond t (l ∷ []) []) (cond t (b ++ m ∷ []) b)
+    by true = reordered-push (filter has_two_or_more_items a) b l m all one
+    by false = rw (append-nil (filter has_two_or_more_items a)) all
+
+pub reordered-below : (n : ℕ) (a b : List (List ℕ)) → AreReordered a b → AllBelow n a → AllBelow n b
+reordered-below n [] [] all low = tt
+reordered-below n [] (y ∷ b) all low = absurd all
+reordered-below n (x ∷ a) [] all low = absurd all
+reordered-below n (x ∷ a) (y ∷ b) all low = (one x y all.0 low.0, reordered-below n a b all.1 low.1)
+  where
+    one : (l m : List ℕ) → IsReordered l m → AreBelow n l → AreBelow n m
+    one [] m h k = absurd h
+    one (c ∷ l) [] h k = absurd h
+    one (c ∷ l) (d ∷ m) h k = (let same = h.0 in let less = k.0 in omega (arith, same, less), below-each n m (λ e has. each-below n l e k.1 (sym (h.1.each e) ∙ has)))
+
+-- ---- names in place of numbers
+
+filter-named : (names : List Name) (p : Name → Bool) (xs : List ℕ) → decode names (filter (λ y. p (name_at names y)) xs) ≡ filter p (decode names xs)
+filter-named names p [] = refl
+filter-named names p (x ∷ xs) = by (p (name_at names x)) (filter-named names p xs)
+  where
+    by : (t : Bool) → decode names (filter (λ y. p (name_at names y)) xs) ≡ filter p (decode names xs)
+        → decode names (cond t (x ∷ filter (λ y. p (name_at names y)) xs) (filter (λ y. p (name_at names y)) xs)) ≡ cond t (name_at names x ∷ filter p (decode names xs)) (filter p (decode names xs))
+    by true more = ap (λ l. name_at names x ∷ l) more
+    by false more = more
+
+pub pair-lists-named : (v : Numbered) (before xs : List ℕ) → map (decode v.names) (pair_lists (is_numbered_pair v) before xs) ≡ pair_lists (is_pair v.statements) (decode v.names before) (decode v.names xs)
+pair-lists-named v before [] = refl
+pair-lists-named v before (x ∷ xs) =
+    ap (λ l. (name_at v.names x ∷ l) ∷ map (decode v.names) (pair_lists (is_numbered_pair v) (before ++ x ∷ []) xs)) (filter-named v.names (is_pair v.statements (name_at v.names x)) before)
+    ∙ ap (λ l. (name_at v.names x ∷ filter (is_pair v.statements (name_at v.names x)) (decode v.names before)) ∷ l)
+    (pair-lists-named v (before ++ x ∷ []) xs ∙ ap (λ b. pair_lists (is_pair v.statements) b (decode v.names xs)) (map-append (name_at v.names) before (x ∷ [])))
+
+-- ---- the list of one variable is made
+
+-- a number is pushed that is not on the stack, or an allocation fails
+pub pushed-once : {T E : Type 0} (r : Result T E) (old new : List ℕ) (c : ℕ) → has_number old c ≡ false → OnOk r (new ≡ old ++ c ∷ []) → OnErr r (new ≡ old) → IsEachOnce old → IsEachOnce new
+pushed-once (Ok x) old new c none ok err once = subst IsEachOnce (sym ok) (once-push old c once none)
+pushed-once (Err x) old new c none ok err once = subst IsEachOnce (sym err) once
+
+pub adds-none : (before old : List ℕ) → AddsBefore before [] old old
+adds-none before old = record { more = []; whole = sym (append-nil old); each = λ c. none (has_number old c) (has_number before c); once = λ once. once }
+  where
+    none : (a b : Bool) → a ≡ (a || (b && false))
+    none a b = grind arith
+
+-- one more symbol is read: it is added if it is one of the variables before
+pub adds-more : (before symbols old list : List ℕ) (n : ℕ) → n < length symbols → AddsBefore before (take n symbols) old list
+    → AddsBefore before (take (n + 1) symbols) old (cond (has_number before (get_or symbols n 0)) (with_number list (get_or symbols n 0)) list)
+adds-more before symbols old list n low adds = by (has_number before x) refl
+  where
+    x : ℕ
+    x = get_or symbols n 0
+
+    more-symbols : (c : ℕ) → has_number (take (n + 1) symbols) c ≡ (has_number (take n symbols) c || (x == c))
+    more-symbols c = list_any_more (λ d. d == c) symbols n 0 low
+
+    with : (c : ℕ) (o b t : Bool) → has_number before x ≡ true → has_number before c ≡ b → ((o || (b && t)) || (c == x)) ≡ (o || (b && (t || (x == c))))
+    with c o b t h e = one (c == x) refl
+      where
+        one : (s : Bool) → (c == x) ≡ s → ((o || (b && t)) || s) ≡ (o || (b && (t || (x == c))))
+        one true k = let same : c ≡ x = grind (arith, k) in let yes : b ≡ true = sym e ∙ (ap (has_number before) same ∙ h) in rw (yes, turn x c, k) (all o t)
+          where
+            all : (o t : Bool) → ((o || (true && t)) || true) ≡ (o || (true && (t || true)))
+            all o t = grind arith
+        one false k = rw (turn x c, k) (all o b t)
+          where
+            all : (o b t : Bool) → ((o || (b && t)) || false) ≡ (o || (b && (t || false)))
+            all o b t = grind arith
+
+    without : (c : ℕ) (o b t : Bool) → has_number before x ≡ false → has_number before c ≡ b → (o || (b && t)) ≡ (o || (b && (t || (x == c))))
+    without c o b t h e = one (x == c) refl
+      where
+        one : (s : Bool) → (x == c) ≡ s → (o || (b && t)) ≡ (o || (b && (t || s)))
+        one true k = let same : c ≡ x = grind (arith, k) in let no_more : b ≡ false = sym e ∙ (ap (has_number before) same ∙ h) in rw no_more refl
+        one false k = rw (or-false t) refl
+
+    by : (b : Bool) → has_number before x ≡ b → AddsBefore before (take (n + 1) symbols) old (cond b (with_number list x) list)
+    by true h = record {
+      more = adds.more ++ tail (has_number list x);
+      whole = at (has_number list x);
+      each = λ c. with-number-has list x c ∙ (ap (λ b. b || (c == x)) (adds.each c) ∙ (with c (has_number old c) (has_number before c) (has_number (take n symbols) c) h refl ∙ ap (λ t. has_number old c || (has_number before c && t)) (sym (more-symbols c))));
+      once = λ once. with-number-once list x (adds.once once);
+    }
+      where
+        tail : Bool → List ℕ
+        tail t = cond t [] (x ∷ [])
+
+        at : (t : Bool) → cond t list (list ++ x ∷ []) ≡ old ++ (adds.more ++ cond t [] (x ∷ []))
+        at true = adds.whole ∙ ap (λ l. old ++ l) (sym (append-nil adds.more))
+        at false = ap (λ l. l ++ x ∷ []) adds.whole ∙ append_assoc old adds.more (x ∷ [])
+    by false h = record {
+      more = adds.more;
+      whole = adds.whole;
+      each = λ c. adds.each c ∙ (without c (has_number old c) (has_number before c) (has_number (take n symbols) c) h refl ∙ ap (λ t. has_number old c || (has_number before c && t)) (sym (more-symbols c)));
+      once = adds.once;
+    }
+
+-- the list found so far, which begins with the variable, and what the rest of the `$d` would add
+pub record IsFound (before : List ℕ) (variable : ℕ) (all rest : List (List ℕ)) (list : List ℕ) : Type 0 where
+  pub others : List ℕ
+  pub is : list ≡ variable ∷ others
+  pub each : (c : ℕ) → (has_number list c || (has_number before c && list_any (λ l. has_number l c) rest)) ≡ ((variable == c) || (has_number before c && list_any (λ l. has_number l c) all))
+  pub once : IsEachOnce list
+
+pub found-start : (before : List ℕ) (variable : ℕ) (all : List (List ℕ)) → IsFound before variable all all (variable ∷ [])
+found-start before variable all = record { others = []; is = refl; each = λ c. ap (λ b. b || (has_number before c && list_any (λ l. has_number l c) all)) (or-false (variable == c)); once = (refl, tt) }
+
+pub found-more : (before : List ℕ) (variable : ℕ) (all rest : List (List ℕ)) (symbols list new : List ℕ) → IsFound before variable all (symbols ∷ rest) list → AddsBefore before symbols list new → IsFound before variable all rest new
+found-more before variable all rest symbols list new f adds = record {
+  others = f.others ++ adds.more;
+  is = adds.whole ∙ ap (λ l. l ++ adds.more) f.is;
+  each = λ c. ap (λ b. b || (has_number before c && list_any (λ l. has_number l c) rest)) (adds.each c)
+      ∙ (shuffle (has_number list c) (has_number before c) (has_number symbols c) (list_any (λ l. has_number l c) rest) ∙ f.each c);
+  once = adds.once f.once;
+}
+  where
+    shuffle : (a b s r : Bool) → ((a || (b && s)) || (b && r)) ≡ (a || (b && (s || r)))
+    shuffle a b s r = grind arith
+
+any-lists : (c : ℕ) (lists : List (List ℕ)) → list_any (λ l. has_number l c) lists ≡ list_any (λ l. list_any (λ d. c == d) l) lists
+any-lists c [] = refl
+any-lists c (l ∷ lists) = ap (λ b. b || list_any (λ m. has_number m c) lists) (sym (has-turn l c)) ∙ ap (λ b. list_any (λ d. c == d) l || b) (any-lists c lists)
+
+filter-has : (p : ℕ → Bool) (xs : List ℕ) (c : ℕ) → has_number (filter p xs) c ≡ (p c && has_number xs c)
+filter-has p xs c = any-filter_same (λ d. d == c) p (p c) (λ d e. let same : d ≡ c = grind (arith, e) in ap p same) xs
+
+below-take : (n k : ℕ) (xs : List ℕ) → AreBelow n xs → AreBelow n (take k xs)
+below-take n zero xs b = tt
+below-take n (suc k) [] b = tt
+below-take n (suc k) (x ∷ xs) b = (b.0, below-take n k xs b.1)
+
+-- when all `$d` are read, the list is that of the variable
+pub found-end : (v : Numbered) (variables : List ℕ) (index variable : ℕ) (all rest : List (List ℕ)) (list : List ℕ) → slice_get variables index ≡ Some variable → AreBelow (length v.names) variables
+    → ((y : ℕ) → y < length v.names → is_numbered_pair v variable y ≡ (not (variable == y) && list_any (λ l. list_any (λ d. y == d) l) all))
+    → rest ≡ [] → IsFound (take index variables) variable all rest list → IsPairList v variables index list
+found-end v variables index variable all rest list stands low pairs none f = record {
+  whole = variable ∷ filter (is_numbered_pair v variable) (take index variables);
+  stands = pair-lists-at (is_numbered_pair v) [] variables index variable stands;
+  reordered = subst (IsReordered (variable ∷ filter (is_numbered_pair v variable) (take index variables))) (sym f.is) (refl, record { each = each; once = (subst IsEachOnce f.is f.once).1 });
+}
+  where
+    before : List ℕ
+    before = take index variables
+
+    own-once : has_number f.others variable ≡ false
+    own-once = (subst IsEachOnce f.is f.once).0
+
+    listed : (c : ℕ) → ((variable == c) || has_number f.others c) ≡ ((variable == c) || (has_number before c && list_any (λ l. has_number l c) all))
+    listed c = ap (λ l. has_number l c) (sym f.is) ∙ (sym (last (has_number list c) (has_number before c)) ∙ (ap (λ r. has_number list c || (has_number before c && list_any (λ l. has_number l c) r)) (sym none) ∙ f.each c))
+      where
+        last : (a b : Bool) → (a || (b && false)) ≡ a
+        last a b = grind arith
+
+    each : (c : ℕ) → has_number f.others c ≡ has_number (filter (is_numbered_pair v variable) before) c
+    each c = by (has_number before c) refl (variable == c) refl ∙ sym (filter-has (is_numbered_pair v variable) before c)
+      where
+        tell : (s a b r : Bool) → s ≡ false → (s || a) ≡ (s || (b && r)) → a ≡ (b && r)
+        tell false a b r e h = h
+        tell true a b r e h = absurd (true≢false e)
+
+        by : (b : Bool) → has_number before c ≡ b → (s : Bool) → (variable == c) ≡ s → has_number f.others c ≡ (is_numbered_pair v variable c && has_number before c)
+        by true e true k =
+            let same : variable ≡ c = grind (arith, k) in
+            let less : c < length v.names = each-below (length v.names) before c (below-take (length v.names) index variables low) e in
+            ap (has_number f.others) (sym same) ∙ (own-once ∙ sym (rw (pairs c less, k) refl))
+        by true e false k =
+            let less : c < length v.names = each-below (length v.names) before c (below-take (length v.names) index variables low) e in
+            tell (variable == c) (has_number f.others c) (has_number before c) (list_any (λ l. has_number l c) all) k (listed c)
+            ∙ rw (e, pairs c less, k, any-lists c all) (last (list_any (λ l. list_any (λ d. c == d) l) all))
+          where
+            last : (a : Bool) → a ≡ (a && true)
+            last a = grind arith
+        by false e true k = let same : variable ≡ c = grind (arith, k) in ap (has_number f.others) (sym same) ∙ (own-once ∙ rw e (sym (and-false (is_numbered_pair v variable c))))
+        by false e false k = tell (variable == c) (has_number f.others c) (has_number before c) (list_any (λ l. has_number l c) all) k (listed c) ∙ rw e (sym (and-false (is_numbered_pair v variable c)))
+
+get-has : (xs : List ℕ) (j c : ℕ) → slice_get xs j ≡ Some c → has_number xs c ≡ true
+get-has [] j c h = cc
+get-has (x ∷ xs) zero c h = let same : x ≡ c = cc in rw same (ap (λ b. b || has_number xs c) (own c))
+get-has (x ∷ xs) (suc j) c h = or_right (x == c) (has_number xs c) (get-has xs j c h)
+
+-- a number is in the first numbers of a list that has each once exactly if its index is low
+pub index-tells : (xs : List ℕ) (k j c : ℕ) → IsEachOnce xs → slice_get xs j ≡ Some c → has_number (take k xs) c ≡ nat_lt j k
+index-tells [] k j c once h = cc
+index-tells (x ∷ xs) zero j c once h = sym (below-zero j)
+  where
+    below-zero : (j : ℕ) → nat_lt j 0 ≡ false
+    below-zero j = grind arith
+index-tells (x ∷ xs) (suc k) zero c once h = let same : x ≡ c = cc in rw same (ap (λ b. b || has_number (take k xs) c) (own c) ∙ sym (zero-below k))
+  where
+    zero-below : (k : ℕ) → nat_lt 0 (suc k) ≡ true
+    zero-below k = grind arith
+index-tells (x ∷ xs) (suc k) (suc j) c once h =
+    let other : (x == c) ≡ false = false_from_ne_true (x == c) (λ e. let same : x ≡ c = grind (arith, e) in true≢false (sym (get-has xs j c h) ∙ (ap (has_number xs) (sym same) ∙ once.0))) in
+    ap (λ b. b || has_number (take k xs) c) other ∙ index-tells xs k j c once.1 h ∙ both-less j k
+  where
+    both-less : (j k : ℕ) → nat_lt j k ≡ nat_lt (suc j) (suc k)
+    both-less j k = grind arith
+
+pub take-has : (xs : List ℕ) (k c : ℕ) → has_number xs c ≡ false → has_number (take k xs) c ≡ false
+take-has xs zero c h = refl
+take-has [] (suc k) c h = refl
+take-has (x ∷ xs) (suc k) c h = let p = or_parts (x == c) (has_number xs c) h in or_from (x == c) (has_number (take k xs) c) p.0 (take-has xs k c p.1)
+
+-- ---- the lists are appended
+
+pub record AreAdded (p : ℕ → ℕ → Bool) (variables : List ℕ) (n : ℕ) (made : List (List ℕ)) : Type 0 where
+  pub so_far : AreReordered (filter has_two_or_more_items (take n (pair_lists p [] variables))) made
+
+take-next : {A : Type 0} (xs : List A) (n : ℕ) (x : A) → slice_get xs n ≡ Some x → take (n + 1) xs ≡ take n xs ++ x ∷ []
+take-next {A = A} xs n x h = let one : n + 1 ≡ suc n = omega arith in ap (λ m. take m xs) one ∙ at xs n h
+  where
+    at : (ys : List A) (m : ℕ) → slice_get ys m ≡ Some x → take (suc m) ys ≡ take m ys ++ x ∷ []
+    at [] m h = cc
+    at (y ∷ ys) zero h = let same : y ≡ x = cc in rw same refl
+    at (y ∷ ys) (suc m) h = ap (λ l. y ∷ l) (at ys m h)
+
+pub added-none : (p : ℕ → ℕ → Bool) (variables : List ℕ) (made : List (List ℕ)) → made ≡ [] → AreAdded p variables 0 made
+added-none p variables made none = record { so_far = rw none tt }
+
+pub added-more : (v : Numbered) (variables : List ℕ) (n : ℕ) (made : List (List ℕ)) (list : List ℕ) → AreAdded (is_numbered_pair v) variables n made → IsPairList v variables n list → AreAdded (is_numbered_pair v) variables (n + 1) (with_list list made)
+added-more v variables n made list so is = record {
+  so_far = subst (λ l. AreReordered (filter has_two_or_more_items l) (with_list list made)) (sym (take-next (pair_lists (is_numbered_pair v) [] variables) n is.whole is.stands)) (reordered-more (take n (pair_lists (is_numbered_pair v) [] variables)) made is.whole list so.so_far is.reordered);
+}
+
+pub added-all : (p : ℕ → ℕ → Bool) (variables : List ℕ) (n : ℕ) (made : List (List ℕ)) → length variables ≤ n → AreAdded p variables n made → AreReordered (pairs_by p variables) made
+added-all p variables n made enough so = subst (λ l. AreReordered (filter has_two_or_more_items l) made) (take_all n (pair_lists p [] variables) (omega (arith, enough, pair-lists-length p [] variables))) so.so_far
