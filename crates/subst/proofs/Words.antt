@@ -3,7 +3,7 @@
 pub use Rattle.frame.proofs.ActiveDisjointLemmas.{all-from, below-at, disjoint-from, last_part, pair_at}
 pub use Rattle.frame.proofs.SymbolNumberLemmas.{below-take}
 pub use Rattle.frame.specs.Below.{AllBelow, AreBelow}
-pub use Rattle.frame.specs.Disjoint.{are_disjoint, are_groups_disjoint, is_group_disjoint}
+pub use Rattle.frame.specs.Disjoint.{are_disjoint, are_groups_disjoint, is_group_disjoint, is_list_disjoint}
 pub use Rattle.frame.specs.FrameOf.{active_disjoint_lists, is_pair, together}
 pub use Rattle.frame.specs.Parts.{Numbered}
 pub use Rattle.frame.specs.Substitution.{CodeImages, Images, apply, code_apply, code_image, image, images_from, images_of_names}
@@ -30,7 +30,7 @@ pub use Rattle.std.specs.List.{list_all, list_any, position_or_len, prefix_len}
 pub use Rattle.std.specs.Map.{lookup}
 pub use Rattle.std.specs.Prelude.{Err, IfNone, IfSome, None, Ok, Option, Result, Some, [], codes, cond, is_some, map, min, nat_eq, nat_lt, not, replicate, slice_get, slice_range, slice_set, suc, zero, ◌%◌, ◌&&◌, ◌||◌, ◌∷◌, ◌≤◌}
 pub use Rattle.std.specs.Simd.Lanes.{mask_l, top, zip2}
-pub use Rattle.subst.specs.DisjointImages.{are_numbers_disjoint, are_two_disjoint, image_named, is_number_disjoint}
+pub use Rattle.subst.specs.DisjointImages.{are_two_disjoint, image_named, is_number_disjoint}
 pub use Rattle.subst.specs.Images.{AreOver}
 pub use Rattle.subst.specs.Laws.{AreImagesDisjoint, DisjointConditionLaw, SubstitutionOverNames}
 pub use Rattle.subst.specs.Stored.ImageTables.{AreUpTo, images_in_round}

@@ -1,6 +1,6 @@
 -- Re-exports of the definitions of lower layers that the specs of this crate cite.
 pub use Rattle.frame.specs.Below.{AreBelow}
-pub use Rattle.frame.specs.Disjoint.{are_disjoint, are_groups_disjoint}
+pub use Rattle.frame.specs.Disjoint.{are_disjoint, are_groups_disjoint, is_list_disjoint}
 pub use Rattle.frame.specs.FrameOf.{active_disjoint_lists, is_pair, together}
 pub use Rattle.frame.specs.Parts.{Numbered}
 pub use Rattle.frame.specs.Substitution.{CodeImages, Images, apply, code_apply, code_image, image, images_of_names}

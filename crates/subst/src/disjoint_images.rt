@@ -1,19 +1,18 @@
 //! The disjoint variable condition for the images of one citation.
-ghost use Rattle.std.specs.Prelude.{◌≡◌, ◌<◌, length, IfOk, OnOk};
+ghost use Rattle.std.specs.Prelude.{◌≡◌, ◌<◌, ◌∷◌, length, IfOk, OnOk};
 ghost use Rattle.std.specs.List.{list_all};
-ghost use Rattle.frame.specs.Below.{AllBelow, AreBelow};
+ghost use Rattle.frame.specs.Below.{AreBelow};
 ghost use Rattle.frame.specs.ListsOfPairs.{is_numbered_pair};
+ghost use Rattle.frame.specs.Parts.{Numbered};
+ghost use Rattle.frame.specs.Substitution.{CodeImages};
 ghost use Rattle.names.specs.Codes.{AreDistinct};
-ghost use Rattle.subst.specs.DisjointImages.{are_numbers_disjoint, image_named, is_number_disjoint};
-ghost use Rattle.subst.specs.Images.{AreOver, are_numbered_groups_disjoint};
-ghost use Rattle.subst.specs.Stored.VariableLists.{AreLists, Extends, IsRowOf, ListsOthers};
+ghost use Rattle.subst.specs.Images.{AreOver, is_numbered_list_disjoint};
+ghost use Rattle.subst.specs.Stored.VariableLists.{AreLists, HasReadOnly, Extends, IsRowOf, ListsOthers};
 ghost use Rattle.subst.specs.SymbolRanges.{AreInside, images_at};
 
-use crate::buffer::Buffer;
 use crate::image_ranges::ImageRanges;
 use crate::symbol_set::SymbolSet;
 use crate::variable_lists::VariableLists;
-use entries::Groups;
 use frame::Pairs;
 use std::alloc::{AllocError, Global};
 
@@ -44,65 +43,23 @@ impl DisjointImages {
         *self = DisjointImages::new(alloc);
     }
 
-    /// Returns whether the images of each two variables of each group are disjoint at the statement
-    /// of the pairs: no variable is in both, and each pair of variables, one from each, is in an
-    /// active `$d`. The images are ranges of the buffer.
-    ///
-    /// Errors: an allocation fails, or the images have more than 4,294,967,295 variables.
-    /// Cost: that of `is_disjoint` for each variable of a group and those before it; all groups are
-    /// read, also behind images that are not disjoint.
-    /// Source: Metamath, 4.2.6.
-    pub fn are_groups_disjoint(
-        &mut self,
-        pairs: &Pairs<'_>,
-        groups: &Groups<'_>,
-        symbols: &Buffer,
-        images: &ImageRanges,
-    ) -> Result<bool, AllocError>
-        requires distinct { AreDistinct pairs.now.names }
-        requires named { AreOver pairs.now.names (images_at symbols.now images.now) }
-        requires inside { AreInside (length symbols.now) images.now }
-        requires below { AllBelow (length pairs.now.names) groups.now }
-        ensures { IfOk result (λ ok. ok ≡ are_numbered_groups_disjoint pairs.now (images_at symbols.now images.now) groups.now) }
+    /// Begins a citation: forgets the images of the one before.
+    pub fn begin_citation(&mut self)
+        ensures { (v : Numbered) (σ : CodeImages) → HasReadOnly v σ self.new }
     {
-        let symbols = symbols.as_slice();
-        let mut all = true;
         self.images.clear();
-        for i in 0..groups.len() {
-            all &= self.is_group_disjoint(pairs, symbols, images, groups.get(i))?;
-        }
-        Ok(all)
     }
 
-    /// Returns whether the images of each two variables of a group are disjoint.
-    fn is_group_disjoint(
-        &mut self,
-        pairs: &Pairs<'_>,
-        symbols: &[u32],
-        images: &ImageRanges,
-        group: &[u32],
-    ) -> Result<bool, AllocError>
-        requires lists { AreLists pairs.now (images_at symbols.now images.now) self.old.images }
-        requires named { AreOver pairs.now.names (images_at symbols.now images.now) }
-        requires inside { AreInside (length symbols.now) images.now }
-        requires below { AreBelow (length pairs.now.names) group.now }
-        ensures lists { OnOk result (AreLists pairs.now (images_at symbols.now images.now) self.new.images) }
-        ensures disjoint { IfOk result (λ ok. ok ≡ are_numbers_disjoint pairs.now.statements (image_named pairs.now.names (images_at symbols.now images.now)) group.now) }
-    {
-        let mut all = true;
-        for i in 1..group.len() {
-            all &= self.is_disjoint(pairs, symbols, images, group[i], &group[..i])?;
-        }
-        Ok(all)
-    }
-
-    /// Returns whether the image of x is disjoint from those of the others in a list.
+    /// Returns whether the image of x is disjoint from those of the others in a list, at the
+    /// statement of the pairs: no variable is in both, and each pair of variables, one from each, is
+    /// in an active `$d`. The images are ranges of the symbols, the same since `begin_citation`.
     ///
     /// Errors: an allocation fails, or the images have more than 4,294,967,295 variables.
     /// Cost: a look-up for each of the others; each image that was not read in this citation; for
     /// each variable of the image of x the symbols of the active `$d` that have it, and the
     /// variables of the other images, all of them.
-    fn is_disjoint(
+    /// Source: Metamath, 4.2.6.
+    pub fn is_disjoint(
         &mut self,
         pairs: &Pairs<'_>,
         symbols: &[u32],
@@ -110,13 +67,14 @@ impl DisjointImages {
         x: u32,
         others: &[u32],
     ) -> Result<bool, AllocError>
-        requires lists { AreLists pairs.now (images_at symbols.now images.now) self.old.images }
+        requires read { HasReadOnly pairs.now (images_at symbols.now images.now) self.old }
+        requires distinct { AreDistinct pairs.now.names }
         requires named { AreOver pairs.now.names (images_at symbols.now images.now) }
         requires inside { AreInside (length symbols.now) images.now }
         requires number { x < length pairs.now.names }
         requires below { AreBelow (length pairs.now.names) others.now }
-        ensures lists { OnOk result (AreLists pairs.now (images_at symbols.now images.now) self.new.images) }
-        ensures disjoint { IfOk result (λ ok. ok ≡ is_number_disjoint pairs.now.statements (image_named pairs.now.names (images_at symbols.now images.now)) others.now x) }
+        ensures read { OnOk result (HasReadOnly pairs.now (images_at symbols.now images.now) self.new) }
+        ensures disjoint { IfOk result (λ ok. ok ≡ is_numbered_list_disjoint pairs.now (images_at symbols.now images.now) (x ∷ others.now)) }
     {
         let own = self.images.variables_of(pairs, symbols, images, x)?;
         if own.start == own.end {

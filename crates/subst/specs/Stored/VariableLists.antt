@@ -7,6 +7,7 @@ use Rattle.subst.specs.Words.{list_any, lookup, Numbered, is_variable, is_pair, 
 use Rattle.subst.specs.Stored.SymbolSets.{StampedSymbols, has_symbol}
 use Rattle.subst.specs.SymbolRanges.{symbols_in}
 use Rattle.subst.specs.declared.symbol_range.SymbolRange.{SymbolRange}
+use Rattle.subst.specs.declared.disjoint_images.DisjointImages.{DisjointImages}
 use Rattle.subst.specs.declared.variable_lists.VariableLists.{VariableLists}
 
 -- the number stands for a variable
@@ -41,6 +42,10 @@ pub record IsListOf (v : Numbered) (variables image : List ℕ) (r : SymbolRange
 -- each image that was read in this citation has its variables in its range
 pub record AreLists (v : Numbered) (σ : CodeImages) (a : VariableLists) : Type 0 where
   pub each : (x : ℕ) (r : SymbolRange) → lookup (nat_eq x) a.lists ≡ Some r → IsListOf v a.variables.items (code_image σ x) r
+
+-- the images that were read in this citation are of these
+abbrev pub HasReadOnly : Numbered → CodeImages → DisjointImages → Type 0
+HasReadOnly v σ a = AreLists v σ a.images
 
 -- the list has exactly the variables of the images of the numbers other than x
 pub record ListsOthers (v : Numbered) (σ : CodeImages) (x : ℕ) (numbers list : List ℕ) : Type 0 where
