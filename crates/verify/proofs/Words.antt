@@ -73,10 +73,10 @@ pub use Rattle.verify.specs.Machine.{Cites, IsSaved, Results, Runs, State, RunsI
 pub use Rattle.verify.specs.Plan.{AreOrdered, IsAfter, IsPlan, built, built_from, derive, pick, trees_of}
 pub use Rattle.verify.specs.Proves.{Proves, label_or_empty, mandatory_labels}
 pub use Rattle.verify.specs.ReadPlaces.{BeginsWith, IsMistyped, ReadTo, ReadsAll, tail_of}
-pub use Rattle.verify.specs.ResultPlaces.{Adds, AreResultRanges, CachesLast, Marks, Recalls, UnchangedUnlessDone, below, results_in, top}
+pub use Rattle.verify.specs.ResultPlaces.{Adds, AreResultRanges, Marks, Recalls, UnchangedUnlessDone, below, results_in, top}
 pub use Rattle.verify.specs.Right.{Derives, IsProvable, IsRight, IsSmall, IsAnswerTo, weight_limit}
 pub use Rattle.verify.specs.Spells.{IsCitable, Spells, SpellsAll, cites_assertion, cites_hypothesis, marks, recalls, spells_more, spells_none}
-pub use Rattle.verify.specs.RunsItemByNumber.{AreCached, AreNamedAndCached, AreNamed, HasCited, IsCached, MayCite, RunsItemByNumber, RunsItemWithTable, without_cached, named}
+pub use Rattle.verify.specs.RunsItemByNumber.{AreNamed, HasCited, MayCite, RunsItemByNumber, named}
 pub use Rattle.verify.specs.Stops.{StopsAt}
 pub use Rattle.verify.specs.declared.answer.Answer.TheVariants.{Proved, Wrong}
 pub use Rattle.verify.specs.declared.answer.Answer.{Answer}

@@ -4,7 +4,7 @@ ghost use Rattle.std.specs.Prelude.{List, IfOk};
 ghost use Rattle.mm_lex.specs.Alphabet.{Name};
 ghost use Rattle.proof_code.specs.ItemNumbers.{item_of};
 ghost use Rattle.verify.specs.RunsItemByNumber.{AreEntriesIn, IsEntryIn, IsReady, MayCite, IsCitedView};
-ghost use Rattle.verify.specs.RunsItemByNumber.{AreNamed, AreNamedAndCachedIn, HasCitedIn, RunsItemIn};
+ghost use Rattle.verify.specs.RunsItemByNumber.{AreNamed, HasCitedIn, RunsItemIn};
 ghost use Rattle.verify.specs.ResultPlaces.{UnchangedUnlessDone};
 
 use crate::cited::cited_view;
@@ -108,8 +108,7 @@ fn cite_entry(
 }
 
 /// Runs one item, by its number, and returns whether it can be done. 0 is a mark; the numbers from
-/// 1 on cite the labels of the table, and those after them recall the results that were marked. If
-/// a citation pops no results, its result is cached for its label.
+/// 1 on cite the labels of the table, and those after them recall the results that were marked.
 ///
 /// Errors: an allocation fails.
 #[inline(always)]
@@ -120,23 +119,19 @@ pub fn step(
     buffers: &mut Buffers,
 ) -> Result<bool, AllocError>
     requires ready { IsReady context.now }
-    requires named_and_cached { AreNamedAndCachedIn context.now table.now buffers.old.results }
+    requires named { AreNamed context.now.frames.now.names buffers.old.results.results }
     requires entries { (labels : List Name) × AreEntriesIn context.now labels table.now }
     ensures effect { (labels : List Name) → AreEntriesIn context.now labels table.now
-        → IfOk result (RunsItemIn context.now table.now (item_of labels number) buffers.old.results buffers.new.results) }
+        → IfOk result (RunsItemIn context.now (item_of labels number) buffers.old.results buffers.new.results) }
     ensures unchanged { IfOk result (λ ok. UnchangedUnlessDone ok buffers.old.results.results buffers.new.results.results) }
 {
     if number == 0 {
         return buffers.results.mark();
     }
     let index = number as usize - 1;
-    if let Some(done) = buffers.results.recall(index, table.len())? {
-        return Ok(done);
+    if index < table.len() {
+        cite_entry(context, table[index], buffers)
+    } else {
+        buffers.results.recall(index - table.len())
     }
-    let stack_len = buffers.results.len();
-    let done = cite_entry(context, table[index], buffers)?;
-    if done && stack_len < buffers.results.len() {
-        buffers.results.cache_last(index);
-    }
-    Ok(done)
 }

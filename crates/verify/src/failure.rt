@@ -1,10 +1,10 @@
 //! The run over the items of a proof, up to the first that cannot be done.
 
-ghost use Rattle.std.specs.Prelude.{List, length, IfOk, IfSome, MatchOption};
+ghost use Rattle.std.specs.Prelude.{List, IfOk, IfSome, MatchOption};
 ghost use Rattle.mm_lex.specs.Alphabet.{Name};
 ghost use Rattle.mm_read.specs.declared.stmt.Stmt.{Stmt as Statement};
 ghost use Rattle.proof_code.specs.ItemNumbers.{items_of};
-ghost use Rattle.verify.specs.RunsItemByNumber.{AreEntriesIn, IsReady, without_cached};
+ghost use Rattle.verify.specs.RunsItemByNumber.{AreEntriesIn, IsReady};
 ghost use Rattle.verify.specs.Right.{IsProvable, IsRight};
 ghost use Rattle.verify.specs.Stops.{IsFirstFailure, StopsIn};
 
@@ -18,14 +18,8 @@ use std::alloc::{AllocError, Global};
 /// Where the run over the items of a proof fails, and the results before it.
 #[derive(Drop)]
 pub enum Failure {
-    /// The item at this index, from 0, cannot be done, or it would make the proof too heavy. The
-    /// first `label_count` saved results are those cached for labels; those that were marked
-    /// follow.
-    Item {
-        item: usize,
-        label_count: usize,
-        results: Results,
-    },
+    /// The item at this index, from 0, cannot be done, or it would make the proof too heavy.
+    Item { item: usize, results: Results },
     /// All items were done, and the results are not the statement's expression alone.
     End {
         results: Results,
@@ -47,9 +41,9 @@ pub(crate) fn run_items(
     requires ready { IsReady context.now }
     requires entries { (labels : List Name) × AreEntriesIn context.now labels table.now }
     ensures stops { (labels : List Name) → AreEntriesIn context.now labels table.now
-        → IfOk result (λ done. StopsIn context.now (items_of labels numbers.now) done (without_cached (length table.now) buffers.new.results.results)) }
+        → IfOk result (λ done. StopsIn context.now (items_of labels numbers.now) done buffers.new.results.results) }
 {
-    buffers.results.start(table.len())?;
+    buffers.results.start();
     for (done, number) in numbers.iter().enumerate() {
         if !step(context, table, *number, buffers)? {
             return Ok(done);
@@ -87,7 +81,6 @@ pub fn first_failure(
     if done < parts.numbers.len() {
         return Ok(Some(Failure::Item {
             item: done,
-            label_count: table.len(),
             results,
         }));
     }

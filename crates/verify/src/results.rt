@@ -1,6 +1,6 @@
 //! The results of a proof so far, as ranges of one buffer.
 
-ghost use Rattle.std.specs.Prelude.{take, List, ℕ, ◌≡◌, ◌<◌, ◌≤◌, ◌↔◌, ◌∷◌, ◌++◌, [], length, slice_get, replicate, nat_eq, ◌==◌, Some, is_some, if◌then◌else◌, IfOk, IfSome, OnOk, OnErr, IsTrue};
+ghost use Rattle.std.specs.Prelude.{take, List, ℕ, suc, ◌≡◌, ◌<◌, ◌≤◌, ◌↔◌, ◌∷◌, ◌++◌, [], length, slice_get, nat_eq, ◌==◌, Some, is_some, if◌then◌else◌, IfOk, IfSome, OnOk, OnErr, IsTrue};
 ghost use Rattle.frame.specs.AtPosition.{HasLegalProperties};
 ghost use Rattle.frame.specs.Below.{AllBelow};
 ghost use Rattle.frame.specs.Substitution.{code_apply};
@@ -10,7 +10,7 @@ ghost use Rattle.subst.specs.Images.{AreOver, are_numbered_groups_disjoint};
 ghost use Rattle.subst.specs.SymbolRanges.{AreInside, AreWithin};
 ghost use Rattle.verify.specs.HypothesisResults.{AreDifferent, ArePresent, HasSeenEssentials, LastResultsMatch, Reads};
 ghost use Rattle.verify.specs.ReadPlaces.{BeginsWith, ReadsAll, tail_of};
-ghost use Rattle.verify.specs.ResultPlaces.{Adds, RecallsAt, CachesLast, Marks, UnchangedUnlessDone, below, top};
+ghost use Rattle.verify.specs.ResultPlaces.{Adds, Marks, Recalls, UnchangedUnlessDone, below, top};
 ghost use Rattle.verify.specs.Right.{weight_limit};
 
 use entries::{Groups, Hypotheses, Hypothesis};
@@ -31,9 +31,7 @@ pub struct Results {
     images: ImageRanges,
     /// The results on the stack, the last on top.
     stack: Vec<SymbolRange>,
-    /// First a range for each label: its result if it was cited and pops no results, else an empty
-    /// range. Such a result is written once, at the first citation of its label. Then the results
-    /// that were marked.
+    /// The results that were marked.
     saved: Vec<SymbolRange>,
     /// The number of symbols of all results that were pushed so far, also of those that were
     /// popped; a recall pushes one.
@@ -78,21 +76,15 @@ impl Results {
         self.symbols_limit = symbols_limit;
     }
 
-    /// Begins a proof: removes all results and images, and adds an empty saved result for each of
-    /// `label_count` labels. Keeps the memory.
-    ///
-    /// Errors: an allocation fails. Cost: the number of labels.
-    pub fn start(&mut self, label_count: usize) -> Result<(), AllocError>
-        ensures { OnOk result (self.new.results ≡ record { stack = []; saved = replicate label_count []; weight = 0 }) }
+    /// Begins a proof: removes all results and images. Keeps the memory.
+    pub fn start(&mut self)
+        ensures { self.new.results ≡ record { stack = []; saved = []; weight = 0 } }
     {
         self.images.clear();
         self.symbols.truncate(0);
         self.stack.clear();
         self.saved.clear();
         self.weight = 0;
-        self.saved
-            .resize(label_count, SymbolRange { start: 0, end: 0 })?;
-        Ok(())
     }
 
     /// Pushes an expression as a result, or returns `false` if the proof would be too heavy.
@@ -118,16 +110,6 @@ impl Results {
         Ok(true)
     }
 
-    /// Saves the last result for the label with that number, from 0.
-    pub fn cache_last(&mut self, label: usize)
-        requires { label < length self.old.results.saved }
-        ensures { CachesLast self.old.results self.new.results label }
-    {
-        if let Some(&place) = self.stack.last() {
-            self.saved[label] = place;
-        }
-    }
-
     /// Marks the last result, or returns `false` if there is none.
     ///
     /// Errors: an allocation fails.
@@ -143,35 +125,26 @@ impl Results {
         Ok(true)
     }
 
-    /// Pushes the result that is saved at that index, or returns `false` if there is none or the
-    /// proof would be too heavy. Returns `None` if the index is one of the first `label_count`, and
-    /// no result with symbols is saved there.
+    /// Pushes the marked result at that index, from 0, or returns `false` if there is none or the
+    /// proof would be too heavy.
     ///
     /// Errors: an allocation fails. Cost: a constant.
     #[inline(always)]
-    pub fn recall(&mut self, index: usize, label_count: usize) -> Result<Option<bool>, AllocError>
-        requires { label_count ≤ length self.old.results.saved }
-        ensures finds { IfOk result (λ done. RecallsAt done label_count self.old.results self.new.results index) }
-        ensures unchanged { IfOk result (λ done. IfSome done (λ ok. UnchangedUnlessDone ok self.old.results self.new.results)) }
+    pub fn recall(&mut self, index: usize) -> Result<bool, AllocError>
+        ensures recalls { IfOk result (λ ok. Recalls ok self.old.results self.new.results (suc index)) }
+        ensures unchanged { IfOk result (λ ok. UnchangedUnlessDone ok self.old.results self.new.results) }
     {
         if index >= self.saved.len() {
-            return Ok(Some(false));
+            return Ok(false);
         }
         let place = self.saved[index];
         let len = (place.end - place.start) as usize;
-        if len == 0 {
-            if index < label_count {
-                return Ok(None);
-            }
-            self.stack.push(place)?;
-            return Ok(Some(true));
-        }
         if len > SYMBOLS_LIMIT - self.weight {
-            return Ok(Some(false));
+            return Ok(false);
         }
         self.stack.push(place)?;
         self.weight += len;
-        Ok(Some(true))
+        Ok(true)
     }
 
     /// Reads the images of the variables of the `$f` from the last results, one for each
@@ -316,7 +289,7 @@ impl Results {
         symbols_at(self.symbols.as_slice(), place)
     }
 
-    /// Returns the number of saved results: one for each label, and those that were marked.
+    /// Returns the number of results that were marked.
     pub fn saved_len(&self) -> usize
         ensures { result ≡ length self.now.results.saved }
     {
