@@ -1,5 +1,5 @@
 -- Results as ranges of a buffer that grows.
-use Rattle.verify.proofs.Words.{◌≡◌, ℕ, zero, suc, ◌+◌, ◌-◌, ◌<◌, ◌≤◌, List, [], ◌∷◌, ◌++◌, length, map, take, drop, get_or, slice_get, Some, refl, option_map, sym, ◌∙◌, ap, subst, arith, length-append, length-drop, length-map, take-map, drop-map, map_push, take_rest, slice_get-map, slice_get-get_or, SymbolRange, symbols_in, AreWithin, AreInside, map-seen-more, within-weaken, within-snoc, within-take, within-drop, within-get, within-at, seen-get, length-seen, seen-last, inside-more, inside-none, Results, with_result, IsSaved, results_in, AreResultRanges, below, top, weight_limit}
+use Rattle.verify.proofs.Words.{◌≡◌, ℕ, zero, suc, ◌+◌, ◌-◌, ◌<◌, ◌≤◌, List, [], ◌∷◌, ◌++◌, length, map, take, drop, get_or, slice_get, Some, refl, option_map, sym, ◌∙◌, ap, subst, arith, length-append, length-drop, length-map, take-map, drop-map, map_push, take_rest, slice_get-map, slice_get-get_or, SymbolRange, symbols_in, AreWithin, AreInside, map-seen-more, within-weaken, within-snoc, within-take, within-drop, within-get, within-at, seen-get, length-seen, seen-last, inside-more, inside-none, Results, with_result, IsSaved, results_in, AreResultRanges, below, top, weight_limit, take_all, take_more, Bool, true, false, HeldResults, IsKept}
 
 pub map-drop : {A B : Type 0} (f : A → B) (k : ℕ) (xs : List A) → map f (drop k xs) ≡ drop k (map f xs)
 map-drop f k xs = sym (drop-map f k xs)
@@ -101,6 +101,19 @@ cleared-kept xs images stack saved e i f w = record {
 }
 
 -- ---- the last results
+
+-- the last range lies within the buffer
+pub range-last : (xs : List ℕ) (stack : List SymbolRange) (p d : SymbolRange) → AreWithin (length xs) stack → 0 < length stack → p ≡ get_or stack (length stack - 1) d
+    → (p.start ≤ p.end) × (p.end ≤ length xs) × (map (symbols_in xs) stack ≡ map (symbols_in xs) (take (length stack - 1) stack) ++ symbols_in xs p ∷ [])
+range-last xs stack p d within some at =
+    let b = saved-at (length xs) (length stack - 1) stack p d within (omega (arith, some)) at in
+    let split : stack ≡ take (length stack - 1) stack ++ p ∷ [] = sym (take_all (length stack - 1 + 1) stack (omega (arith, some))) ∙ (take_more stack (length stack - 1) d (omega (arith, some)) ∙ ap (λ q. take (length stack - 1) stack ++ q ∷ []) (sym at)) in
+    (b.0, b.1, ap (map (symbols_in xs)) split ∙ map_push (symbols_in xs) (take (length stack - 1) stack) p)
+
+-- results that are kept since others that are equal
+pub kept-as : (ok : Bool) (old old' new : HeldResults) → old'.results ≡ old.results → old'.symbols ≡ old.symbols → IsKept ok old' new → IsKept ok old new
+kept-as true old old' new r s k = (k.0, k.1 ∙ ap (λ xs. xs ++ k.0) s)
+kept-as false old old' new r s k = (k.0 ∙ r, k.1 ∙ s)
 
 -- there are r places of the last r results
 pub last-count : {A : Type 0} (k r : ℕ) (s : List A) → r ≤ length s → k ≡ length s - r → length (take (length s - k) (drop k s)) ≡ r

@@ -1,9 +1,8 @@
 -- The exits of a step in the code are steps of the machine.
 use Rattle.verify.proofs.Words.{◌≡◌, ℕ, suc, ◌+◌, ◌-◌, ◌<◌, ◌≤◌, Bool, true, false, List, [], ◌∷◌, ◌++◌, length, map, take, drop, get_or, Some, refl, sym, ◌∙◌, ap, subst, arith, length-map, map-append, take-append-drop, take_all, drop_more, map_more, item-cite, item-recall, Name, Stmt, Database, stmt_at, expr_of, name_at, decode, Item, Cite, Recall, Results, start, Cites, Runs, Adds, Marks, Recalls, AreBelow, AllBelow, named, AreNamed, RunsItemByNumber, HasCited, HasLegalProperties, item_of, IsRight, weight_limit, decode-injective, LabelEntry, AreEntries}
-use Rattle.verify.proofs.Named.{goes-recall, goes-mark, named-result, result-named}
+use Rattle.verify.proofs.Named.{named-result, result-named}
 use Rattle.verify.proofs.Decide.{cites_same, refuted_at_end, refuted_at_step, accepts_right}
 use Rattle.verify.proofs.Complete.{runs_append}
-use Rattle.verify.proofs.LabelTableLemmas.{entry_at}
 
 module _ (S : Database) (names : List Name) (at : ℕ) (legal : HasLegalProperties S names) where
   module _ (old new : Results ℕ) (an : AreNamed names old) where
@@ -61,16 +60,9 @@ all-taken f xs n h = ap (map f) (take_all n xs h)
 
 -- ---- an item by its number
 
-module _ (S : Database) (names : List Name) (at : ℕ) (old new : Results ℕ) (an : AreNamed names old) (labels : List Name) (table : List LabelEntry) (number : ℕ) (ok : Bool) where
-  pub mark-on : number ≡ 0 → Marks ok old new → RunsItemByNumber ok S at names (item_of labels number) old new
-  mark-on is marks = subst (λ m. RunsItemByNumber ok S at names (item_of labels m) old new) (sym is) (goes-mark names S at ok old new an marks)
+module _ (S : Database) (at : ℕ) (labels : List Name) (table : List LabelEntry) (are : AreEntries S at labels table) (number k : ℕ) (is : number ≡ suc k) where
+  pub cite-item : k < length table → Cite (get_or labels k []) ≡ item_of labels number
+  cite-item within = let c = are.count in sym (item-cite labels number k is (omega (arith, within, c)))
 
-  pub cited-on : (k : ℕ) (d : LabelEntry) → number ≡ suc k → AreEntries S at labels table → k < length table → HasCited S at names (get_or table k d) old new ok → RunsItemByNumber ok S at names (item_of labels number) old new
-  cited-on k d is are within cited =
-      let c = are.count in
-      subst (λ i. RunsItemByNumber ok S at names i old new) (sym (item-cite labels number k is (omega (arith, within, c)))) (cited (get_or labels k []) (entry_at S at labels table k d are within))
-
-  pub recall-on : (k : ℕ) → number ≡ suc k → AreEntries S at labels table → length table ≤ k → Recalls ok old new (suc (k - length table)) → RunsItemByNumber ok S at names (item_of labels number) old new
-  recall-on k is are high recalls =
-      let c = are.count in
-      subst (λ i. RunsItemByNumber ok S at names i old new) (ap (λ n. Recall (suc (k - n))) c ∙ sym (item-recall labels number k is (omega (arith, high, c)))) (goes-recall names S at ok old new (suc (k - length table)) an recalls)
+  pub recall-item : length table ≤ k → Recall (suc (k - length table)) ≡ item_of labels number
+  recall-item high = let c = are.count in ap (λ n. Recall (suc (k - n))) c ∙ sym (item-recall labels number k is (omega (arith, high, c)))

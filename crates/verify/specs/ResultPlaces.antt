@@ -6,10 +6,11 @@ use Rattle.verify.specs.Words.{CodeImages, SymbolRange, symbols_in, images_at, A
 use Rattle.verify.specs.Machine.{Results, with_result, with_mark, IsSaved}
 use Rattle.verify.specs.Right.{weight_limit}
 
--- results and images
+-- results and images, and the symbols of the buffer
 pub record HeldResults : Type 0 where
   pub results : Results ℕ
   pub images : CodeImages
+  pub symbols : List ℕ
 
 -- the results in these ranges
 abbrev pub results_in : List ℕ → List SymbolRange → List SymbolRange → ℕ → Results ℕ
@@ -17,7 +18,7 @@ results_in symbols stack saved weight = record { stack = map (symbols_in symbols
 
 -- the results and images in these ranges
 abbrev pub held : List ℕ → List (ℕ × SymbolRange) → List SymbolRange → List SymbolRange → ℕ → HeldResults
-held symbols images stack saved weight = record { results = results_in symbols stack saved weight; images = images_at symbols images }
+held symbols images stack saved weight = record { results = results_in symbols stack saved weight; images = images_at symbols images; symbols = symbols }
 
 -- all ranges are in the buffer, which has no more symbols than the weight, and the weight is within
 -- the limit
@@ -41,10 +42,11 @@ abbrev pub Adds : {A : Type 0} → Bool → Results A → Results A → List (Li
 Adds true old new stack e = new ≡ with_result old stack e
 Adds false old new stack e = weight_limit < old.weight + length e
 
--- if the item is not done, the results are unchanged
-abbrev pub UnchangedUnlessDone : {A : Type 0} → Bool → Results A → Results A → Type 0
-UnchangedUnlessDone true old new = Unit {0}
-UnchangedUnlessDone false old new = new ≡ old
+-- the item was done, and only appends symbols; or it was not done, and results and symbols are
+-- unchanged
+abbrev pub IsKept : Bool → HeldResults → HeldResults → Type 0
+IsKept true old new = (e : List ℕ) × (new.symbols ≡ old.symbols ++ e)
+IsKept false old new = (new.results ≡ old.results) × (new.symbols ≡ old.symbols)
 
 -- the last result was marked, or there is none
 abbrev pub Marks : {A : Type 0} → Bool → Results A → Results A → Type 0

@@ -3,13 +3,16 @@
 -- is this project's.
 -- The code runs over the items once, up to the first that cannot be done.
 use Rattle.std.specs.Prelude.{◌≡◌, ℕ, ◌<◌, ◌≤◌, List, [], ◌∷◌, length, map, take, slice_get, Some}
-use Rattle.verify.specs.Words.{Name, Stmt, Database, stmt_at, expr_of, Item, decode}
+use Rattle.verify.specs.Words.{Name, Stmt, Database, stmt_at, expr_of, Item, decode, Numbered}
 use Rattle.verify.specs.RunsItemByNumber.{named, AreNamed}
 use Rattle.verify.specs.Machine.{Results, State, start, Runs, RunsItem}
-use Rattle.verify.specs.Right.{weight_limit}
+use Rattle.verify.specs.Right.{IsRight, weight_limit}
+use Rattle.verify.specs.Walk.{Walk, walk}
 use Rattle.verify.specs.declared.citation.ProofContext.{ProofContext}
 use Rattle.verify.specs.declared.failure.Failure.{Failure}
 use Rattle.verify.specs.declared.failure.Failure.TheVariants as failure
+use Rattle.verify.specs.declared.failure.Outcome.{Outcome}
+use Rattle.verify.specs.declared.failure.Outcome.TheVariants as outcome
 
 -- the first `done` items run to these results, and the next item, if there is one, cannot be done
 -- within the limit
@@ -39,3 +42,14 @@ abbrev pub IsFirstFailure : Database → ℕ → List Name → List Item → Fai
 IsFirstFailure S at names items (failure.Item item results) = (item < length items) × IsStopped S at names items item results.results
 IsFirstFailure S at names items (failure.End results) =
     IsStopped S at names items (length items) results.results × ((s : Stmt) → stmt_at S at ≡ Some s → IsNotOnly names results.results s)
+
+-- the items are a right proof, and the stack is the statement's expression alone; or they are not,
+-- and fail here
+abbrev pub IsOutcome : Database → ℕ → List Name → List Item → Outcome → Type 0
+IsOutcome S at names items (outcome.Right results) = IsRight S at items × ((s : Stmt) → stmt_at S at ≡ Some s → map (decode names) results.results.stack ≡ expr_of s ∷ [])
+IsOutcome S at names items (outcome.Failed fails) = (IsRight S at items → ⊥) × IsFirstFailure S at names items fails
+
+-- if the proof is right, the listener follows the walk over all items
+abbrev pub HasHeardAll : {L : Type 0} → (Walk → L → Type 0) → Numbered → ℕ → List Item → Outcome → L → Type 0
+HasHeardAll follows f at items (outcome.Right results) listener = follows (walk f at items results) listener
+HasHeardAll follows f at items (outcome.Failed fails) listener = Unit {0}

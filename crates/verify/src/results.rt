@@ -10,8 +10,9 @@ ghost use Rattle.subst.specs.Images.{AreOver, are_numbered_groups_disjoint};
 ghost use Rattle.subst.specs.SymbolRanges.{AreInside, AreWithin};
 ghost use Rattle.verify.specs.HypothesisResults.{AreDifferent, ArePresent, HasSeenEssentials, LastResultsMatch, Reads};
 ghost use Rattle.verify.specs.ReadPlaces.{BeginsWith, ReadsAll, tail_of};
-ghost use Rattle.verify.specs.ResultPlaces.{Adds, Marks, Recalls, UnchangedUnlessDone, below, top};
+ghost use Rattle.verify.specs.ResultPlaces.{Adds, IsKept, Marks, Recalls, below, top};
 ghost use Rattle.verify.specs.Right.{weight_limit};
+ghost use Rattle.verify.specs.Walk.{IsLastRange};
 
 use entries::{Groups, Hypotheses, Hypothesis};
 use frame::{Frames, Pairs};
@@ -78,7 +79,8 @@ impl Results {
 
     /// Begins a proof: removes all results and images. Keeps the memory.
     pub fn start(&mut self)
-        ensures { self.new.results ≡ record { stack = []; saved = []; weight = 0 } }
+        ensures results { self.new.results ≡ record { stack = []; saved = []; weight = 0 } }
+        ensures symbols { self.new.symbols ≡ [] }
     {
         self.images.clear();
         self.symbols.truncate(0);
@@ -94,7 +96,7 @@ impl Results {
     #[inline(never)]
     pub fn add(&mut self, expr: &[u32]) -> Result<bool, AllocError>
         ensures adds { IfOk result (λ ok. Adds ok self.old.results self.new.results self.old.results.stack expr.now) }
-        ensures unchanged { IfOk result (λ ok. UnchangedUnlessDone ok self.old.results self.new.results) }
+        ensures kept { IfOk result (λ ok. IsKept ok self.old self.new) }
     {
         if expr.len() > SYMBOLS_LIMIT - self.weight {
             return Ok(false);
@@ -116,7 +118,7 @@ impl Results {
     #[inline(always)]
     pub fn mark(&mut self) -> Result<bool, AllocError>
         ensures marks { IfOk result (λ ok. Marks ok self.old.results self.new.results) }
-        ensures unchanged { IfOk result (λ ok. UnchangedUnlessDone ok self.old.results self.new.results) }
+        ensures kept { IfOk result (λ ok. IsKept ok self.old self.new) }
     {
         let Some(&place) = self.stack.last() else {
             return Ok(false);
@@ -132,7 +134,7 @@ impl Results {
     #[inline(always)]
     pub fn recall(&mut self, index: usize) -> Result<bool, AllocError>
         ensures recalls { IfOk result (λ ok. Recalls ok self.old.results self.new.results (suc index)) }
-        ensures unchanged { IfOk result (λ ok. UnchangedUnlessDone ok self.old.results self.new.results) }
+        ensures kept { IfOk result (λ ok. IsKept ok self.old self.new) }
     {
         if index >= self.saved.len() {
             return Ok(false);
@@ -162,6 +164,7 @@ impl Results {
         requires count { length hypotheses.now ≤ length self.old.results.stack }
         requires different { AreDifferent hypotheses.now }
         ensures same { self.new.results ≡ self.old.results }
+        ensures symbols { self.new.symbols ≡ self.old.symbols }
         ensures read { IfOk result (λ r. Reads (is_some r) typecodes.now hypotheses.now (top (length hypotheses.now) self.old.results.stack) self.new.images) }
         ensures essentials { IfOk result (λ r. IfSome r (HasSeenEssentials hypotheses.now)) }
     {
@@ -233,7 +236,7 @@ impl Results {
     pub fn apply(&mut self, count: usize, expr: &[u32]) -> Result<bool, AllocError>
         requires { count ≤ length self.old.results.stack }
         ensures adds { IfOk result (λ ok. Adds ok self.old.results self.new.results (below count self.old.results.stack) (code_apply self.old.images expr.now)) }
-        ensures unchanged { IfOk result (λ ok. UnchangedUnlessDone ok self.old.results self.new.results) }
+        ensures kept { IfOk result (λ ok. IsKept ok self.old self.new) }
     {
         let keep = self.stack.len() - count;
         let start = self.symbols.len();
@@ -287,6 +290,22 @@ impl Results {
     {
         let place = self.stack[index];
         symbols_at(self.symbols.as_slice(), place)
+    }
+
+    /// Returns the range of the last result in the buffer of symbols.
+    #[inline(always)]
+    pub fn last_range(&self) -> SymbolRange
+        requires { 0 < length self.now.results.stack }
+        ensures { IsLastRange self.now result }
+    {
+        self.stack[self.stack.len() - 1]
+    }
+
+    /// Returns the buffer of symbols.
+    pub fn into_symbols(self) -> Buffer
+        ensures { result ≡ self.symbols }
+    {
+        self.symbols
     }
 
     /// Returns the number of results that were marked.

@@ -1,4 +1,4 @@
-use Rattle.verify.proofs.Words.{arith, refl}
+use Rattle.verify.proofs.Words.{[], append-nil, arith, refl, sym}
 use Rattle.verify.proofs.ResultPlaceLemmas.{saved-at, kept-recall, recall-seen, recall-heavy}
 use Rattle.verify.proofs.results.Results.recall.Goals as goal
 
@@ -14,3 +14,6 @@ invariant_of-self-2 c = kept-recall _ _ _ _ _ _ _ _ _ c.self.invariant (omega (a
 
 pub returns-clause-recalls : goal.returns-clause-recalls
 returns-clause-recalls c = rw (← c.self.view_is) (recall-seen _ _ _ _ _ _ _ _ _ c.self.invariant.saved_within (omega (arith, c.if-index-len.false, c.len.ensures)) c.index-place.ensures c.in_ok-push.ensures.items refl)
+
+pub returns-clause-kept : goal.returns-clause-kept
+returns-clause-kept c = rw (← c.self.view_is) ([], sym (append-nil c.self.inside.symbols))
