@@ -1,5 +1,5 @@
 -- The item or the end where the run stops is the first fault.
-use Rattle.explain.proofs.Words.{nat_lt, nat_tests, ◌≡◌, ◌≢◌, Bool, true, false, ℕ, zero, suc, ◌+◌, ◌-◌, ◌<◌, ◌≤◌, List, [], ◌∷◌, ◌++◌, length, map, take, drop, get_or, arith, refl, sym, ◌∙◌, ap, subst, Option, Some, None, slice_get, length-drop, Vec, Name, Stmt, Database, Expr, decode, stmt_at, expr_of, Carries, Item, Cite, Recall, Mark, item_of, items_of, ItemFault, TooManySymbols, NoMarkedResult, UnknownLabel, Reason, CitationGives, IsItemFault, RunsWithinLimit, IsFirstFault, IsPosition, ArePositions, without_cached, Results, State, start, IsSaved, Runs, IsStopped, item-cite, get_or_default, same_Some, SYMBOLS_LIMIT}
+use Rattle.explain.proofs.Words.{nat_lt, nat_tests, ◌≡◌, ◌≢◌, Bool, true, false, ℕ, zero, suc, ◌+◌, ◌-◌, ◌<◌, ◌≤◌, List, [], ◌∷◌, ◌++◌, length, map, take, get_or, arith, refl, sym, ◌∙◌, ap, subst, Option, Some, None, slice_get, Vec, Name, Stmt, Database, Expr, decode, stmt_at, expr_of, Carries, Item, Cite, Recall, Mark, item_of, items_of, ItemFault, TooManySymbols, NoMarkedResult, UnknownLabel, Reason, CitationGives, IsItemFault, RunsWithinLimit, IsFirstFault, IsPosition, ArePositions, Results, State, start, IsSaved, Runs, IsStopped, item-cite, get_or_default, same_Some, SYMBOLS_LIMIT}
 use Rattle.explain.specs.declared.reason.Reason.TheVariants as reason
 use Rattle.explain.specs.FirstFault.{IsEndReason}
 use Rattle.explain.proofs.RunItemLemmas.{mark_fails, recall_heavy, cite_stuck, recall_item, what_is, found-at}
@@ -7,10 +7,10 @@ use Rattle.verify.specs.RunsItemByNumber.{named}
 use Rattle.verify.specs.Stops.{IsNotOnly}
 use Rattle.verify.proofs.Words.{take_all, length-map, slice_get-get_or, slice_get_within}
 
-module _ (S : Database) (names : List Name) (at : ℕ) (items : List Item) (k labels : ℕ) (st : Results ℕ) (stopped : IsStopped S at names items k labels st) where
+module _ (S : Database) (names : List Name) (at : ℕ) (items : List Item) (k : ℕ) (st : Results ℕ) (stopped : IsStopped S at names items k st) where
   -- the results before the item, by name
   abbrev pub held : State
-  held = named names (without_cached labels st)
+  held = named names st
 
   -- the items before the item run within the limit
   pub runs_well : RunsWithinLimit S at (take k items) held
@@ -21,28 +21,28 @@ module _ (S : Database) (names : List Name) (at : ℕ) (items : List Item) (k la
   fails_mark what there same = subst (λ i. IsItemFault S names at held i NoMarkedResult) same (mark_fails S at held stopped.light (stopped.stops.stuck Mark (there ∙ ap Some (sym same))))
 
   -- a recall of a saved result, or of one that is not saved
-  pub fails_recall_heavy : (what : Item) (i : ℕ) → slice_get items k ≡ Some what → Recall (suc i) ≡ what → i < length st.saved - labels → IsItemFault S names at held what TooManySymbols
+  pub fails_recall_heavy : (what : Item) (i : ℕ) → slice_get items k ≡ Some what → Recall (suc i) ≡ what → i < length st.saved → IsItemFault S names at held what TooManySymbols
   fails_recall_heavy what i there same less =
-      let l = length-drop labels st.saved in let m = length-map (drop labels st.saved) (decode names) in
+      let m = length-map st.saved (decode names) in
       subst (λ w. IsItemFault S names at held w TooManySymbols) same
-      (recall_heavy S at held stopped.light i (stopped.stops.stuck (Recall (suc i)) (there ∙ ap Some (sym same))) (omega (arith, l, m, less)))
+      (recall_heavy S at held stopped.light i (stopped.stops.stuck (Recall (suc i)) (there ∙ ap Some (sym same))) (omega (arith, m, less)))
 
-  pub fails_recall_none : (what : Item) (i : ℕ) → Recall (suc i) ≡ what → length st.saved - labels ≤ i → IsItemFault S names at held what NoMarkedResult
+  pub fails_recall_none : (what : Item) (i : ℕ) → Recall (suc i) ≡ what → length st.saved ≤ i → IsItemFault S names at held what NoMarkedResult
   fails_recall_none what i same over =
-      let l = length-drop labels st.saved in let m = length-map (drop labels st.saved) (decode names) in
+      let m = length-map st.saved (decode names) in
       subst (λ w. IsItemFault S names at held w NoMarkedResult) same
-      (λ e saved. let w = slice_get_within (map (decode names) (drop labels st.saved)) i e saved in omega (arith, w, l, m, over))
+      (λ e saved. let w = slice_get_within (map (decode names) st.saved) i e saved in omega (arith, w, m, over))
 
   pub fails_recall : (what : Item) (i : ℕ) (fault : ItemFault) → slice_get items k ≡ Some what → Recall (suc i) ≡ what
-      → (i < length st.saved - labels → fault ≡ TooManySymbols) → (length st.saved - labels ≤ i → fault ≡ NoMarkedResult) → IsItemFault S names at held what fault
-  fails_recall what i fault there same marked unmarked = by (nat_lt i (length st.saved - labels)) refl
+      → (i < length st.saved → fault ≡ TooManySymbols) → (length st.saved ≤ i → fault ≡ NoMarkedResult) → IsItemFault S names at held what fault
+  fails_recall what i fault there same marked unmarked = by (nat_lt i (length st.saved)) refl
     where
-      by : (b : Bool) → nat_lt i (length st.saved - labels) ≡ b → IsItemFault S names at held what fault
+      by : (b : Bool) → nat_lt i (length st.saved) ≡ b → IsItemFault S names at held what fault
       by true e =
-          let less : i < length st.saved - labels = grind (arith, nat_tests) in
+          let less : i < length st.saved = grind (arith, nat_tests) in
           subst (IsItemFault S names at held what) (sym (marked less)) (fails_recall_heavy what i there same less)
       by false e =
-          let over : length st.saved - labels ≤ i = grind (arith, nat_tests) in
+          let over : length st.saved ≤ i = grind (arith, nat_tests) in
           subst (IsItemFault S names at held what) (sym (unmarked over)) (fails_recall_none what i same over)
 
   -- with each result that a citation gives, the lengths of all results exceed the limit
@@ -55,15 +55,15 @@ module _ (S : Database) (names : List Name) (at : ℕ) (items : List Item) (k la
   first_at s what fault there fails = (held, what, runs_well, there, fails)
 
 -- the fault at the end
-module _ (S : Database) (names : List Name) (at : ℕ) (items : List Item) (labels : ℕ) (st : Results ℕ) (s : Stmt) (stopped : IsStopped S at names items (length items) labels st) (other : IsNotOnly names st s) where
-  whole : RunsWithinLimit S at items (held S names at items (length items) labels st stopped)
-  whole = subst (λ is. RunsWithinLimit S at is (held S names at items (length items) labels st stopped)) (take_all (length items) items (omega arith)) (runs_well S names at items (length items) labels st stopped)
+module _ (S : Database) (names : List Name) (at : ℕ) (items : List Item) (st : Results ℕ) (s : Stmt) (stopped : IsStopped S at names items (length items) st) (other : IsNotOnly names st s) where
+  whole : RunsWithinLimit S at items (held S names at items (length items) st stopped)
+  whole = subst (λ is. RunsWithinLimit S at is (held S names at items (length items) st stopped)) (take_all (length items) items (omega arith)) (runs_well S names at items (length items) st stopped)
 
   pub first_end : (r : Reason) → IsEndReason st.stack r → IsFirstFault S names at s items r
   first_end (reason.Item k fault) is = absurd is
-  first_end (reason.ResultCount count) is = (held S names at items (length items) labels st stopped, whole, is.0 ∙ sym (length-map st.stack (decode names)), is.1)
+  first_end (reason.ResultCount count) is = (held S names at items (length items) st stopped, whole, is.0 ∙ sym (length-map st.stack (decode names)), is.1)
   first_end (reason.OtherTheorem proved) is =
-      (held S names at items (length items) labels st stopped, whole, ap (map (decode names)) is, λ same. other (ap (map (decode names)) is ∙ ap (λ e. e ∷ []) same))
+      (held S names at items (length items) st stopped, whole, ap (map (decode names)) is, λ same. other (ap (map (decode names)) is ∙ ap (λ e. e ∷ []) same))
 
 -- ---- items by their numbers
 

@@ -4,7 +4,7 @@ pub use Rattle.entries.specs.declared.assertion_view.Hypothesis.TheVariants.{Ess
 pub use Rattle.explain.specs.Breaks.{AreLettersBroken, BeginsWith, Breaks, IsAllowedBeginning, IsEndOrMark, IsFirst, IsLetterBreak, EndsListedLabels, IsNotLabel, IsTooGreat, has_fault, joined, marks_in, fault_index}
 pub use Rattle.explain.specs.CitationFaults.{AllMatch, HasOtherTypecode, IsFloat, IsMismatchFault, IsFirstMismatch, HasOtherTypecodeThan, IsFaultOfResult, HasOtherTypecodeNumber, required_result}
 pub use Rattle.explain.specs.DisjointViolations.{AreUnpairedIn, IsViolation, IsViolationIn, IsViolationWith, is_permitted_pair, is_other_disjoint}
-pub use Rattle.explain.specs.CitationResults.{CitationGives, named_without_cached, of_assertion, of_hypothesis}
+pub use Rattle.explain.specs.CitationResults.{CitationGives, named_results, of_assertion, of_hypothesis}
 pub use Rattle.explain.specs.FirstFault.{IsItemFault, IsCitationFault, IsLabelCitationFault, IsFirstFault, RunsWithinLimit}
 pub use Rattle.explain.specs.ImageIndexes.{IsImageIndex}
 pub use Rattle.explain.specs.LettersBefore.{IsReadTo, zeros}
@@ -83,6 +83,5 @@ pub use Rattle.verify.specs.LabelTable.{IsEntry}
 pub use Rattle.verify.specs.Machine.{IsSaved, Results, Runs, State, start}
 pub use Rattle.verify.specs.Proves.{label_or_empty, mandatory_labels}
 pub use Rattle.verify.specs.Right.{IsProvable}
-pub use Rattle.verify.specs.RunsItemByNumber.{without_cached}
 pub use Rattle.verify.specs.Stops.{IsStopped}
 pub use Rattle.verify.specs.declared.label_table.LabelEntry.TheVariants.{Nothing}

@@ -2,7 +2,7 @@
 -- Source: Metamath, 4.2.6; the limit is this project's.
 -- The code has the verifier's results as numbers; here they are expressions.
 use Rattle.std.specs.Prelude.{◌≡◌, ℕ, ◌+◌, ◌<◌, List, ◌++◌, length, map, Some}
-use Rattle.explain.specs.Words.{Stmt, Expr, Database, expr_of, stmt_at, decode, Numbered, IsHypothesis, IsInstance, premises, without_cached, named, State, HeldResults, SYMBOLS_LIMIT}
+use Rattle.explain.specs.Words.{Stmt, Expr, Database, expr_of, stmt_at, decode, Numbered, IsHypothesis, IsInstance, premises, named, State, HeldResults, SYMBOLS_LIMIT}
 use Rattle.frame.specs.Substitution.{Images, apply as applied}
 
 -- a citation of the statement s at i replaces the results above `below` by e
@@ -10,9 +10,9 @@ pub data CitationGives (S : Database) (at i : ℕ) (s : Stmt) (stack below : Lis
   of_hypothesis : IsHypothesis S at i s → e ≡ expr_of s → stack ≡ below → CitationGives S at i s stack below e
   of_assertion : (σ : Images) → IsInstance S at i s σ → stack ≡ below ++ premises S i s σ → e ≡ applied σ (expr_of s) → CitationGives S at i s stack below e
 
--- the results by name, without the first `labels` saved ones, which the verifier caches for labels
-abbrev pub named_without_cached : Numbered → ℕ → HeldResults → State
-named_without_cached f labels results = named f.names (without_cached labels results.results)
+-- the results by name
+abbrev pub named_results : Numbered → HeldResults → State
+named_results f results = named f.names results.results
 
 -- no citation of the statement at i gives a result within the limit: with each that one gives, the
 -- weight exceeds it

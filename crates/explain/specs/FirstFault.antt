@@ -8,7 +8,7 @@ use Rattle.explain.specs.declared.reason.ItemFault.{ItemFault}
 use Rattle.explain.specs.declared.reason.ItemFault.TheVariants.{UnknownLabel, Inactive, NotEarlier, TooFewResults, OtherTypecode, OtherExpression, NotDisjoint, TooManySymbols, NoMarkedResult}
 use Rattle.explain.specs.declared.reason.Reason.{Reason}
 use Rattle.explain.specs.declared.reason.Reason.TheVariants as reason
-use Rattle.explain.specs.CitationResults.{CitationGives, named_without_cached}
+use Rattle.explain.specs.CitationResults.{CitationGives, named_results}
 use Rattle.explain.specs.WrongResults.{IsResultsFault}
 
 -- the last results on the stack, one for each mandatory hypothesis of the earlier assertion s at a,
@@ -65,10 +65,9 @@ IsItemFault S names at h (Cite label) fault = IsLabelCitationFault S names at h 
 IsItemFault S names at h (Recall k) fault = IsRecallFault h k fault
 IsItemFault S names at h Mark fault = IsMarkFault h fault
 
--- the fault of an item after these results, of which the first `label_count` saved ones are cached
--- for labels
-abbrev pub IsItemFaultAfter : Numbered → ℕ → ℕ → HeldResults → Item → ItemFault → Type 0
-IsItemFaultAfter f at label_count results item fault = IsItemFault f.statements f.names at (named_without_cached f label_count results) item fault
+-- the fault of an item after these results
+abbrev pub IsItemFaultAfter : Numbered → ℕ → HeldResults → Item → ItemFault → Type 0
+IsItemFaultAfter f at results item fault = IsItemFault f.statements f.names at (named_results f results) item fault
 
 -- the items run to the state h, within the limit
 pub record RunsWithinLimit (S : Database) (at : ℕ) (items : List Item) (h : State) : Type 0 where

@@ -29,4 +29,4 @@ pub use Rattle.verify.specs.Machine.{IsSaved, Runs, State, start}
 pub use Rattle.verify.specs.Proves.{mandatory_labels}
 pub use Rattle.verify.specs.ResultPlaces.{HeldResults}
 pub use Rattle.verify.specs.Right.{IsProvable}
-pub use Rattle.verify.specs.RunsItemByNumber.{without_cached, named}
+pub use Rattle.verify.specs.RunsItemByNumber.{named}

@@ -8,7 +8,7 @@ ghost use Rattle.frame.specs.AtPosition.{HasLegalProperties};
 ghost use Rattle.explain.specs.Stored.CodeSlices.{AreSymbols, AreImages, HasHypothesisCount, codes, named_expressions};
 ghost use Rattle.explain.specs.CitationFaults.{IsFaultOfResult, IsNumberedMismatch, NumberedResultsMatch, AreImagesOfResults};
 ghost use Rattle.scope.specs.Active.{before, stmt_at};
-ghost use Rattle.explain.specs.CitationResults.{CannotCite, named_without_cached};
+ghost use Rattle.explain.specs.CitationResults.{CannotCite, named_results};
 ghost use Rattle.explain.specs.FirstFault.{IsCitationFault};
 ghost use Rattle.explain.specs.WrongResults.{AreCorrectResults, IsResultsFault};
 ghost use Rattle.subst.specs.declared.buffer.TheConstants.{SYMBOLS_LIMIT};
@@ -22,8 +22,7 @@ use std::alloc::{AllocError, Global};
 use subst::SYMBOLS_LIMIT;
 use verify::Results;
 
-/// Returns why the statement at a position cannot be cited, given the earlier results. The clause
-/// holds for any count `labels` of cached results, because this fault depends on no saved result.
+/// Returns why the statement at a position cannot be cited, given the earlier results.
 ///
 /// Errors: an allocation fails, or the expression that a hypothesis requires has more than
 /// `SYMBOLS_LIMIT` symbols.
@@ -37,8 +36,8 @@ pub fn citation_fault(
     requires position { (1 ≤ at) × (at ≤ length frames.now.statements) }
     requires results { AllBelow (length frames.now.names) results.now.results.stack }
     requires stuck { CannotCite frames.now at statement results.now }
-    ensures { (labels : ℕ) (s : Statement) → stmt_at frames.now.statements statement ≡ Some s
-        → IfOk result (IsCitationFault frames.now.statements frames.now.names at (named_without_cached frames.now labels results.now) statement s) }
+    ensures { (s : Statement) → stmt_at frames.now.statements statement ≡ Some s
+        → IfOk result (IsCitationFault frames.now.statements frames.now.names at (named_results frames.now results.now) statement s) }
 {
     match frames.meaning(at, statement) {
         Meaning::Hypothesis(_) => Ok(ItemFault::TooManySymbols),
@@ -63,8 +62,8 @@ fn assertion_fault(
     requires assertion { (s : Statement) × HasAssertion frames.now.statements cited_at s }
     requires results { AllBelow (length frames.now.names) results.now.results.stack }
     requires stuck { CannotCite frames.now at cited_at results.now }
-    ensures { (labels : ℕ) (s : Statement) → stmt_at frames.now.statements cited_at ≡ Some s
-        → IfOk result (IsCitationFault frames.now.statements frames.now.names at (named_without_cached frames.now labels results.now) cited_at s) }
+    ensures { (s : Statement) → stmt_at frames.now.statements cited_at ≡ Some s
+        → IfOk result (IsCitationFault frames.now.statements frames.now.names at (named_results frames.now results.now) cited_at s) }
 {
     let mut mandatory = Vec::new(alloc);
     frames.mandatory(cited_at, &mut mandatory)?;
@@ -101,8 +100,8 @@ fn assertion_view_fault(
     requires cited { (s : Statement) → stmt_at frames.now.statements cited_at ≡ Some s → IsViewOf frames.now.statements frames.now.names cited_at s cited.now }
     requires results { AllBelow (length frames.now.names) results.now.results.stack }
     requires stuck { CannotCite frames.now at cited_at results.now }
-    ensures { (labels : ℕ) (s : Statement) → stmt_at frames.now.statements cited_at ≡ Some s
-        → IfOk result (IsCitationFault frames.now.statements frames.now.names at (named_without_cached frames.now labels results.now) cited_at s) }
+    ensures { (s : Statement) → stmt_at frames.now.statements cited_at ≡ Some s
+        → IfOk result (IsCitationFault frames.now.statements frames.now.names at (named_results frames.now results.now) cited_at s) }
 {
     let present = results.len();
     let required = mandatory.len();

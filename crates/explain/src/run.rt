@@ -1,5 +1,5 @@
 //! The first fault of a proof.
-ghost use Rattle.std.specs.Prelude.{◌≡◌, ◌-◌, ◌<◌, ◌≤◌, length, slice_get, IfOk, IfSome, MatchOption, Some};
+ghost use Rattle.std.specs.Prelude.{◌≡◌, ◌<◌, ◌≤◌, length, slice_get, IfOk, IfSome, MatchOption, Some};
 ghost use Rattle.mm_read.specs.declared.stmt.Stmt.{Stmt as Statement};
 ghost use Rattle.scope.specs.Active.{stmt_at};
 ghost use Rattle.proof_code.specs.declared.item.Item.{Item};
@@ -37,12 +37,8 @@ pub fn first_fault(
         return Ok(None);
     };
     match failure {
-        Failure::Item {
-            item,
-            label_count,
-            results,
-        } => {
-            let fault = item_fault(alloc, frames, at, items, item, label_count, &results)?;
+        Failure::Item { item, results } => {
+            let fault = item_fault(alloc, frames, at, items, item, &results)?;
             Ok(Some(Reason::Item { item, fault }))
         }
         Failure::End { results } => Ok(Some(end_reason(alloc, &results)?)),
@@ -50,22 +46,19 @@ pub fn first_fault(
 }
 
 /// Returns the fault of the item at which the run stops. The number of an item is 0 for a mark,
-/// from 1 to the count of the labels for a citation, and greater for a recall. `label_count` is
-/// that count; the verifier saves one result for each label, as a cache, before those that are
-/// marked.
+/// from 1 to the count of the labels for a citation, and greater for a recall.
 fn item_fault(
     alloc: Global,
     frames: &Frames,
     at: usize,
     items: &Items,
     item: usize,
-    label_count: usize,
     results: &Results,
 ) -> Result<ItemFault, AllocError>
     requires position { (1 ≤ at) × (at ≤ length frames.now.statements) }
     requires item { item < length items.now }
-    requires stopped { IsStopped frames.now.statements at frames.now.names items.now item label_count results.now.results }
-    ensures { (failing : Item) → slice_get items.now item ≡ Some failing → IfOk result (IsItemFaultAfter frames.now at label_count results.now failing) }
+    requires stopped { IsStopped frames.now.statements at frames.now.names items.now item results.now.results }
+    ensures { (failing : Item) → slice_get items.now item ≡ Some failing → IfOk result (IsItemFaultAfter frames.now at results.now failing) }
 {
     let parts = items.parts();
     let number = parts.numbers[item] as usize;
@@ -74,7 +67,7 @@ fn item_fault(
     }
     let positions = frames.positions(parts.labels)?;
     if number > positions.len() {
-        return Ok(recall_fault(results, label_count, number - positions.len() - 1));
+        return Ok(recall_fault(results, number - positions.len() - 1));
     }
     match positions[number - 1] {
         Some(statement) => citation_fault(alloc, frames, at, statement, results),
@@ -82,13 +75,12 @@ fn item_fault(
     }
 }
 
-/// Returns the fault of a recall that fails. The first `label_count` saved results are those that
-/// the verifier caches for labels; the index counts the marked results, which follow them.
-fn recall_fault(results: &Results, label_count: usize, index: usize) -> ItemFault
-    ensures marked { index < length results.now.results.saved - label_count → result ≡ TooManySymbols }
-    ensures unmarked { length results.now.results.saved - label_count ≤ index → result ≡ NoMarkedResult }
+/// Returns the fault of a recall that fails. The index counts the marked results, from 0.
+fn recall_fault(results: &Results, index: usize) -> ItemFault
+    ensures marked { index < length results.now.results.saved → result ≡ TooManySymbols }
+    ensures unmarked { length results.now.results.saved ≤ index → result ≡ NoMarkedResult }
 {
-    if index < results.saved_len().saturating_sub(label_count) {
+    if index < results.saved_len() {
         ItemFault::TooManySymbols
     } else {
         ItemFault::NoMarkedResult

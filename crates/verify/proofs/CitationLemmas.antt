@@ -5,7 +5,7 @@ use Rattle.verify.proofs.RequiredHypotheses.{required-lengths}
 use Rattle.verify.proofs.CitingLemmas.{of_variables, apply-τ, disjoint-τ, premises-read, premise-typed, fits-agree, conclusion-agrees, disjoint-agrees, read-over}
 use Rattle.verify.proofs.Decide.{append_cut, length-premises, not_both}
 use Rattle.verify.proofs.ImageLemmas.{only, apply-below, are-codes}
-use Rattle.verify.proofs.Named.{saved-same, named-result, result-named, all-take, all-drop, halves, length-top}
+use Rattle.verify.proofs.Named.{named-result, result-named, all-take, all-drop, halves, length-top}
 
 -- the conditions on the stack that hold if a citation of the assertion can give the result f
 pub record Meets (S : Database) (names : List Name) (at a : ℕ) (c : AssertionView) (stack : List (List ℕ)) (f : Expr) : Type 0 where
@@ -110,17 +110,11 @@ module _ (t : ProofContext) (a : ℕ) (old : Results ℕ) (may : MayCite t a old
       → HypothesesMatch t.frames.now.statements (images_of_names t.frames.now.names ρ) c.hypotheses (map (decode t.frames.now.names) (top count old.stack))
       → are_groups_disjoint (before t.frames.now.statements t.at) (images_of_names t.frames.now.names ρ) (map (decode t.frames.now.names) c.groups) ≡ true
       → Adds ok old new (below count old.stack) (code_apply ρ c.conclusion.now) → HasCited t.frames.now.statements t.at t.frames.now.names (Assertion a) old new ok
-  has-cited ok new ρ many read fits disjoint adds = (
-    λ label is.
-        let has = has_with t.frames.now.statements a is.0 may.assertion.0 label is.1 may.assertion.1 in
-        goes-assertion t.frames.now.statements t.frames.now.names t.at a is.0 c may.ready.legal (may.ready.legal.well_typed a is.0 has) (cited is.0 is.1.stands) ok old new label ρ may.named is.1 has may.earlier many read fits disjoint adds,
-    saved-same old new (below count old.stack) (code_apply ρ c.conclusion.now) ok adds,
-  )
+  has-cited ok new ρ many read fits disjoint adds = λ label is.
+      let has = has_with t.frames.now.statements a is.0 may.assertion.0 label is.1 may.assertion.1 in
+      goes-assertion t.frames.now.statements t.frames.now.names t.at a is.0 c may.ready.legal (may.ready.legal.well_typed a is.0 has) (cited is.0 is.1.stands) ok old new label ρ may.named is.1 has may.earlier many read fits disjoint adds
 
   pub not-cited : (new : Results ℕ) → ((f : Expr) → Meets t.frames.now.statements t.frames.now.names t.at a c old.stack f → ⊥) → HasCited t.frames.now.statements t.at t.frames.now.names (Assertion a) old new false
-  not-cited new none = (
-    λ label is.
-        let has = has_with t.frames.now.statements a is.0 may.assertion.0 label is.1 may.assertion.1 in
-        goes-not t.frames.now.statements t.frames.now.names t.at a is.0 c may.ready.legal (may.ready.legal.well_typed a is.0 has) (cited is.0 is.1.stands) old new label may.named is.1 has none,
-    λ same. absurd (true≢false (sym same)),
-  )
+  not-cited new none = λ label is.
+      let has = has_with t.frames.now.statements a is.0 may.assertion.0 label is.1 may.assertion.1 in
+      goes-not t.frames.now.statements t.frames.now.names t.at a is.0 c may.ready.legal (may.ready.legal.well_typed a is.0 has) (cited is.0 is.1.stands) old new label may.named is.1 has none

@@ -1,6 +1,5 @@
--- The machine over derivations: items spell at most one derivation; the exits of an item in the
--- code.
-use Rattle.verify.proofs.Words.{◌≡◌, ℕ, zero, suc, List, [], ◌∷◌, ◌++◌, length, refl, ◌-◌, ◌<◌, ◌≤◌, Bool, true, false, map, get_or, Result, IfOk, sym, ◌∙◌, ap, subst, append_assoc, append-nil, arith, length-append, same_from_push, Name, Stmt, Expr, Database, stmt_at, before, is_assertion, hypotheses, Item, Cite, Recall, Mark, Derivation, Derivations, hyp, apply, none, more, from_list, ConcludeAll, IsHypothesis, premises, Carries, IsCitable, Spells, SpellsAll, cites_hypothesis, cites_assertion, recalls, marks, spells_none, spells_more, HasLabelsOnce, Trees, trees, Builds, a_hypothesis, an_assertion, IsSavedTree, Grows, GrowsBy, with_tree, Grew, some-same, item_of, item-cite, item-recall, below, top, IsRight, Derives}
+-- The machine over derivations: items spell at most one derivation; the effect of citations.
+use Rattle.verify.proofs.Words.{◌≡◌, ℕ, zero, suc, List, [], ◌∷◌, ◌++◌, length, refl, ◌-◌, ◌<◌, ◌≤◌, map, get_or, sym, ◌∙◌, ap, subst, append_assoc, append-nil, arith, same_from_push, Name, Stmt, Expr, Database, stmt_at, before, is_assertion, hypotheses, Item, Cite, Recall, Mark, Derivation, Derivations, hyp, apply, none, more, from_list, ConcludeAll, IsHypothesis, premises, Carries, IsCitable, Spells, SpellsAll, cites_hypothesis, cites_assertion, recalls, marks, spells_none, spells_more, HasLabelsOnce, Trees, trees, Builds, a_hypothesis, an_assertion, IsSavedTree, Grows, GrowsBy, with_tree, some-same, below, top, IsRight, Derives}
 use Rattle.verify.proofs.Decide.{append_cut, length-premises, not_both}
 use Rattle.verify.proofs.Named.{halves, length-top}
 
@@ -92,21 +91,8 @@ module _ (S : Database) (at : ℕ) where
         let f : t ∷ [] ≡ u ∷ [] = ap (λ s. s.stack) e in cc
 
 module _ (S : Database) (at : ℕ) (label : Name) where
-  -- an assertion can be cited only if there are as many derivations as it has hypotheses
-  pub builds-takes : HasLabelsOnce S → (a : ℕ) (s : Stmt) → Carries S a s label → IsCitable S at a s → (stack b : List Derivation) (t : Derivation) → Builds S at label stack b t
-      → length (hypotheses (before S a) s) ≤ length stack
-  builds-takes once a s carries citable stack b t (a_hypothesis i r p active same whole) = absurd (apart_kinds S at once i a r s label p active carries citable)
-  builds-takes once a s carries citable stack b t (an_assertion d r children q citable' many whole same) =
-      let n : d ≡ a = once d a r s label q carries in
-      let v : r ≡ s = some-same q.stands (ap (stmt_at S) n ∙ carries.stands) in
-      let m : length children ≡ length (hypotheses (before S a) s) = many ∙ (ap (λ k. length (hypotheses (before S k) r)) n ∙ ap (λ w. length (hypotheses (before S a) w)) v) in
-      omega (arith, m, ap length whole, length-append b children)
-
-  pub too-few : HasLabelsOnce S → (a : ℕ) (s : Stmt) → Carries S a s label → IsCitable S at a s → (old new : Trees) (count : ℕ) → count ≡ length (hypotheses (before S a) s) → length old.stack < count → Grew false S at old (Cite label) new
-  too-few once a s carries citable old new count same few = λ next p. let h = builds-takes once a s carries citable old.stack p.0 p.1 p.2 in omega (arith, h, same, few)
-
   pub assertion-grows : (a : ℕ) (s : Stmt) → Carries S a s label → IsCitable S at a s → (old new : Trees) (count : ℕ) → count ≡ length (hypotheses (before S a) s) → count ≤ length old.stack
-      → new ≡ with_tree old (below count old.stack) (apply a (from_list (top count old.stack))) → Grew true S at old (Cite label) new
+      → new ≡ with_tree old (below count old.stack) (apply a (from_list (top count old.stack))) → Grows S at old (Cite label) new
   assertion-grows a s carries citable old new count same enough grown = (
     below count old.stack,
     apply a (from_list (top count old.stack)),
@@ -114,32 +100,12 @@ module _ (S : Database) (at : ℕ) (label : Name) where
     grown,
   )
 
-  pub hypothesis-grows : (i : ℕ) (s : Stmt) → Carries S i s label → IsHypothesis S at i s → (old new : Trees) → new ≡ with_tree old old.stack (hyp i) → Grew true S at old (Cite label) new
+  pub hypothesis-grows : (i : ℕ) (s : Stmt) → Carries S i s label → IsHypothesis S at i s → (old new : Trees) → new ≡ with_tree old old.stack (hyp i) → Grows S at old (Cite label) new
   hypothesis-grows i s carries active old new grown = (old.stack, hyp i, a_hypothesis i s carries active refl refl, grown)
-
--- a number greater than the count of the labels is a recall
-pub recall-grows : (S : Database) (at : ℕ) (labels : List Name) (n k : ℕ) (old new : Trees) (ok : Bool) → n ≡ suc k → length labels ≤ k → Grew ok S at old (Recall (suc (k - length labels))) new → Grew ok S at old (item_of labels n) new
-recall-grows S at labels n k old new ok p h g = subst (λ i. Grew ok S at old i new) (sym (item-recall labels n k p h)) g
-
-pub cite-grows : (S : Database) (at : ℕ) (labels : List Name) (n k : ℕ) (old new : Trees) {E : Type 0} (r : Result Bool E) → n ≡ suc k → k < length labels
-    → IfOk r (λ ok. Grew ok S at old (Cite (get_or labels k [])) new) → IfOk r (λ ok. Grew ok S at old (item_of labels n) new)
-cite-grows S at labels n k old new r p h g = subst (λ i. IfOk r (λ ok. Grew ok S at old i new)) (sym (item-cite labels n k p h)) g
 
 -- ---- a right proof
 
--- a stack that grows by all items grows by the first ones, and from there by the rest
-grows-rest : (S : Database) (at : ℕ) → HasLabelsOnce S → (front rest : List Item) (st mid end : Trees) → GrowsBy S at st (front ++ rest) end → GrowsBy S at st front mid → GrowsBy S at mid rest end
-grows-rest S at once [] rest st mid end p q = subst (λ r. GrowsBy S at r rest end) q p
-grows-rest S at once (item ∷ front) rest st mid end p q =
-    grows-rest S at once front rest q.0 mid end (subst (λ r. GrowsBy S at r (front ++ rest) end) (grows_same S at once st p.0 q.0 item p.1 q.1) p.2) q.2
-
--- each item of a right proof can be done
-pub never-stuck : (S : Database) (at : ℕ) → HasLabelsOnce S → (front rest : List Item) (item : Item) (st new : Trees) → GrowsBy S at (trees [] []) front st → Grew false S at st item new → IsRight S at (front ++ item ∷ rest) → ⊥
-never-stuck S at once front rest item st new p stuck (t, d) =
-    let q = grows-rest S at once front (item ∷ rest) (trees [] []) st (trees (t ∷ []) d.after) (yields S at d.spelled []) p in
-    stuck q.0 q.1
-
-pub grows-on : (S : Database) (at : ℕ) (items : List Item) (item : Item) (st new : Trees) → GrowsBy S at (trees [] []) items st → Grew true S at st item new → GrowsBy S at (trees [] []) (items ++ item ∷ []) new
+pub grows-on : (S : Database) (at : ℕ) (items : List Item) (item : Item) (st new : Trees) → GrowsBy S at (trees [] []) items st → Grows S at st item new → GrowsBy S at (trees [] []) (items ++ item ∷ []) new
 grows-on S at items item st new p g = grows_append S at items (item ∷ []) (trees [] []) st new p (new, g, refl)
 
 -- after the items of a right proof its derivation is alone on the stack

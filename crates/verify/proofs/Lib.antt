@@ -13,6 +13,7 @@ pub mod Named
 pub mod StepLemmas
 pub mod MandatoryEntries
 pub mod LabelTableLemmas
+pub mod WalkLemmas
 pub mod GrowthLemmas
 pub mod PlanLemmas
 pub mod RightLemmas

@@ -1,32 +1,12 @@
 -- Steps over numbers are steps over the names that they stand for.
-use Rattle.verify.proofs.Words.{◌≡◌, ℕ, zero, suc, ◌+◌, ◌-◌, ◌≤◌, Bool, true, false, IsTrue, List, [], ◌∷◌, ◌++◌, length, drop, get_or, replicate, slice_get, slice_set, refl, map, take, Some, option_map, sym, ◌∙◌, ap, arith, true≢false, subst, length-append, length-drop, length-map, take-append-drop, map_push, slice_get-map, AreBelow, AllBelow, Results, IsSaved, with_result, with_mark, Adds, below, top, Marks, Recalls, below-group, Name, Expr, Database, name_at, decode, Recall, Mark, named, AreNamed, RunsItemByNumber}
+use Rattle.verify.proofs.Words.{◌≡◌, ℕ, zero, suc, ◌+◌, ◌-◌, ◌≤◌, Bool, true, false, List, [], ◌∷◌, ◌++◌, length, drop, get_or, slice_get, refl, map, take, Some, option_map, sym, ◌∙◌, ap, arith, subst, length-append, length-drop, length-map, take-append-drop, map_push, slice_get-map, AreBelow, AllBelow, Results, IsSaved, with_result, with_mark, Adds, below, top, Marks, Recalls, below-group, Name, Expr, Database, name_at, decode, Recall, Mark, named, AreNamed, RunsItemByNumber}
 use Rattle.verify.proofs.ResultPlaceLemmas.{results-same}
 
 -- ---- lists
 
-pub all-set : (n k : ℕ) (es : List (List ℕ)) (e : List ℕ) → AllBelow n es → AreBelow n e → AllBelow n (slice_set es k e)
-all-set n k [] e p q = tt
-all-set n zero (x ∷ es) e p q = (q, p.1)
-all-set n (suc k) (x ∷ es) e p q = (p.0, all-set n k es e p.1 q)
-
 pub all-snoc : (n : ℕ) (es : List (List ℕ)) (e : List ℕ) → AllBelow n es → AreBelow n e → AllBelow n (es ++ e ∷ [])
 all-snoc n [] e p q = (q, tt)
 all-snoc n (x ∷ es) e p q = (p.0, all-snoc n es e p.1 q)
-
-pub all-none : (n m : ℕ) → AllBelow n (replicate m [])
-all-none n zero = tt
-all-none n (suc m) = (tt, all-none n m)
-
-pub get-drop : {A : Type 0} (n k : ℕ) (xs : List A) → n ≤ k → slice_get (drop n xs) (k - n) ≡ slice_get xs k
-get-drop zero k xs h = ap (slice_get xs) (let e : k - 0 ≡ k = omega arith in e)
-get-drop (suc n) k [] h = refl
-get-drop (suc n) zero (x ∷ xs) h = absurd (omega (arith, h))
-get-drop (suc n) (suc k) (x ∷ xs) h = ap (slice_get (drop n xs)) (let e : suc k - suc n ≡ k - n = omega arith in e) ∙ get-drop n k xs (omega (arith, h))
-
--- pushing a result leaves the saved results unchanged
-pub saved-same : (old new : Results ℕ) (stack : List (List ℕ)) (e : List ℕ) (ok : Bool) → Adds ok old new stack e → IsTrue ok → new.saved ≡ old.saved
-saved-same old new stack e true adds t = ap (λ (st : Results ℕ). st.saved) adds
-saved-same old new stack e false adds t = absurd (true≢false (sym t))
 
 pub all-take : (n k : ℕ) (es : List (List ℕ)) → AllBelow n es → AllBelow n (take k es)
 all-take n zero es p = tt

@@ -1,7 +1,9 @@
 -- A plan grows as a stack of derivations does; the extents of its derivations, and the derivation
 -- of a node.
-use Rattle.verify.proofs.Words.{◌≡◌, ℕ, zero, suc, ◌+◌, ◌-◌, ◌<◌, ◌≤◌, true, false, List, [], ◌∷◌, ◌++◌, length, map, take, drop, get_or, slice_get, Some, refl, min, max, Vec, sym, ◌∙◌, ap, subst, arith, length-append, append_assoc, length-map, take-map, map_push, take_more, take_all, take-append-drop, length-take-le, slice_get_within, Global, Database, AreBelow, Recall, Node, TreePlan, Derivation, hyp, from_list, node_count, nodes_in, depth, depth_in, apply, Trees, trees, with_tree, Grew, below, top, pick, derive, built_from, built, IsAfter, AreOrdered, trees_of, IsPlan, get-front, get-last, below-more, below-push, below-at, Extent, extent_of, Hyp, Apply}
+use Rattle.verify.proofs.Words.{◌≡◌, ℕ, zero, suc, ◌+◌, ◌-◌, ◌<◌, ◌≤◌, List, [], ◌∷◌, ◌++◌, length, map, take, drop, get_or, slice_get, Some, refl, min, max, Vec, sym, ◌∙◌, ap, subst, arith, length-append, append_assoc, length-map, take-map, map_push, take_more, take_all, take-append-drop, length-take-le, Global, AreBelow, Recall, Node, TreePlan, Derivation, hyp, from_list, node_count, nodes_in, depth, depth_in, apply, trees, with_tree, below, top, pick, derive, built_from, built, IsAfter, AreOrdered, trees_of, IsPlan, get-front, get-last, below-more, below-push, below-at, Extent, extent_of, Hyp, Apply, Numbered, Walk, walk_on, walk_start, Item, Cite, Mark, HeldResults, IsDone, CitesHypothesis, CitesAssertion, IsMark, IsRecall, Hears, IsPlanOf, AddsNode, Grows, GrowsBy, SymbolRange, symbols_in, below-take, below-drop}
 use Rattle.verify.proofs.ResultPlaceLemmas.{map-drop, get-map-some}
+use Rattle.verify.proofs.GrowthLemmas.{grows-on, hypothesis-grows, assertion-grows}
+use Rattle.verify.proofs.WalkLemmas.{cite-saved, mark-counts, recall-counts}
 
 pub built-snoc : (ts : List Derivation) (ns : List Node) (n : Node) → built_from ts (ns ++ n ∷ []) ≡ built_from ts ns ++ derive (built_from ts ns) n ∷ []
 built-snoc ts [] n = refl
@@ -63,42 +65,6 @@ below-get n [] i x b h = cc
 below-get n (y ∷ xs) zero x b h = let e : y ≡ x = cc in subst (λ v. v < n) e b.0
 below-get n (y ∷ xs) (suc i) x b h = below-get n xs i x b.1 h
 
-pub marked-plan : (old new : TreePlan) (k : ℕ) → IsPlan old → slice_get old.stack.items (length old.stack.items - 1) ≡ Some k
-    → new.nodes.items ≡ old.nodes.items → new.stack.items ≡ old.stack.items → new.saved.items ≡ old.saved.items ++ k ∷ [] → IsPlan new
-marked-plan old new k is at nodes stack saved =
-    record {
-      ordered = subst (AreOrdered 0) (sym nodes) is.ordered;
-      stack_below = subst (λ ns. AreBelow (length ns) new.stack.items) (sym nodes) (subst (AreBelow (length old.nodes.items)) (sym stack) is.stack_below);
-      saved_below = subst (λ ns. AreBelow (length ns) new.saved.items) (sym nodes) (subst (AreBelow (length old.nodes.items)) (sym saved) (below-push _ old.saved.items k is.saved_below (below-get _ old.stack.items _ k is.stack_below at)));
-    }
-
-pub recalled-plan : (old new : TreePlan) (i k d : ℕ) → IsPlan old → i < length old.saved.items → k ≡ get_or old.saved.items i d
-    → new.nodes.items ≡ old.nodes.items → new.stack.items ≡ old.stack.items ++ k ∷ [] → new.saved.items ≡ old.saved.items → IsPlan new
-recalled-plan old new i k d is lt at nodes stack saved =
-    record {
-      ordered = subst (AreOrdered 0) (sym nodes) is.ordered;
-      stack_below = subst (λ ns. AreBelow (length ns) new.stack.items) (sym nodes) (subst (AreBelow (length old.nodes.items)) (sym stack) (below-push _ old.stack.items k is.stack_below (subst (λ v. v < length old.nodes.items) (sym at) (below-at _ old.saved.items i d is.saved_below lt))));
-      saved_below = subst (λ ns. AreBelow (length ns) new.saved.items) (sym nodes) (subst (AreBelow (length old.nodes.items)) (sym saved) is.saved_below);
-    }
-
-pub recalled-grew : (S : Database) (at : ℕ) (old new : TreePlan) (i k d : ℕ) → i < length old.saved.items → k ≡ get_or old.saved.items i d
-    → new.nodes.items ≡ old.nodes.items → new.stack.items ≡ old.stack.items ++ k ∷ [] → new.saved.items ≡ old.saved.items → Grew true S at (trees_of old) (Recall (suc i)) (trees_of new)
-recalled-grew S at old new i k d lt at_i nodes stack saved =
-    let ts = built old.nodes.items in (
-      pick ts k,
-      get-map-some (pick ts) old.saved.items i d lt ∙ ap (λ v. Some (pick ts v)) (sym at_i),
-      trees-same _ _ _ _ (ap (λ ns. map (pick (built ns)) new.stack.items) nodes ∙ (ap (map (pick ts)) stack ∙ map_push (pick ts) old.stack.items k))
-          (ap (λ ns. map (pick (built ns)) new.saved.items) nodes ∙ ap (map (pick ts)) saved),
-    )
-
--- an index that is not below the count of saved nodes cannot be recalled
-pub not-saved : (S : Database) (at : ℕ) (old : TreePlan) (new : Trees) (i : ℕ) → length old.saved.items ≤ i → Grew false S at (trees_of old) (Recall (suc i)) new
-not-saved S at old new i h = λ next p.
-    let ts = (trees_of old).saved in
-    let l : length ts ≡ length old.saved.items = length-map old.saved.items (pick (built old.nodes.items)) in
-    let w : i < length ts = slice_get_within ts i p.0 p.1 in
-    omega (arith, l, w, h)
-
 pub children-top : (ts : List Derivation) (stack children : List ℕ) (keep count : ℕ) → keep ≡ length stack - count → children ≡ drop keep stack
     → map (pick ts) children ≡ top count (map (pick ts) stack)
 children-top ts stack children keep count at whole =
@@ -109,6 +75,146 @@ pub rest-below : (ts : List Derivation) (stack rest : List ℕ) (keep count : �
 rest-below ts stack rest keep count at whole =
     let l = length-map stack (pick ts) in
     ap (map (pick ts)) whole ∙ (sym (take-map (pick ts) keep stack) ∙ ap (λ n. take n (map (pick ts) stack)) (omega (arith, at, l)))
+
+-- ---- the plan follows a walk
+
+pub plan-start : (f : Numbered) (at : ℕ) (p : TreePlan) → p.nodes.items ≡ [] → p.stack.items ≡ [] → p.saved.items ≡ [] → IsPlanOf (walk_start f at) p
+plan-start f at p nodes stack saved = record {
+  is_plan = record {
+    ordered = subst (AreOrdered 0) (sym nodes) tt;
+    stack_below = subst (AreBelow (length p.nodes.items)) (sym stack) tt;
+    saved_below = subst (AreBelow (length p.nodes.items)) (sym saved) tt;
+  };
+  grown = trees-same _ _ _ _ (ap (map (pick (built p.nodes.items))) (sym stack)) (ap (map (pick (built p.nodes.items))) (sym saved));
+  stack_count = ap length stack;
+  saved_count = ap length saved;
+}
+
+module _ (old new : TreePlan) (w : Walk) (item : Item) (held : HeldResults) (p : IsPlanOf w old) where
+  -- the plan grows as the item does
+  grown-on : (i : Item) → item ≡ i → Grows w.statements w.at (trees_of old) i (trees_of new) → GrowsBy w.statements w.at (trees [] []) (w.items ++ item ∷ []) (trees_of new)
+  grown-on i is grows = subst (λ j. GrowsBy w.statements w.at (trees [] []) (w.items ++ j ∷ []) (trees_of new)) (sym is) (grows-on w.statements w.at w.items i (trees_of old) (trees_of new) p.grown grows)
+
+  module _ (done : IsDone w item held) where
+    hypothesis-on : (position : ℕ) (range : SymbolRange) → AddsNode old new (Hyp position) → CitesHypothesis position range w item held → IsPlanOf (walk_on w item held) new
+    hypothesis-on position range adds told = record {
+      is_plan = added-plan old new (Hyp position) p.is_plan tt adds.nodes adds.stack adds.saved;
+      grown = grown-on (Cite told.label) told.cites
+          (hypothesis-grows w.statements w.at told.label position told.entry.0 told.entry.1 told.entry.2 (trees_of old) (trees_of new) (added-trees old new (Hyp position) p.is_plan adds.nodes adds.stack adds.saved));
+      stack_count = (let s = ap length adds.stack in let l = length-append old.stack.items (length old.nodes.items ∷ []) in let c = p.stack_count in let n = told.pushes in omega (arith, s, l, c, n));
+      saved_count = ap length adds.saved ∙ (p.saved_count ∙ sym (cite-saved w item held done told.label told.cites));
+    }
+
+    mark-on : (k d : ℕ) → item ≡ Mark → k ≡ get_or old.stack.items (length old.stack.items - 1) d
+        → new.nodes.items ≡ old.nodes.items → new.stack.items ≡ old.stack.items → new.saved.items ≡ old.saved.items ++ k ∷ [] → IsPlanOf (walk_on w item held) new
+    mark-on k d is last nodes stack saved =
+        let counts = mark-counts w item held done is in
+        let count = p.stack_count in let some = counts.0 in
+        let n = length old.stack.items in
+        let ts = built old.nodes.items in
+        let within : n - 1 < n = omega (arith, count, some) in
+        let split : old.stack.items ≡ take (n - 1) old.stack.items ++ k ∷ [] = sym (take_all (n - 1 + 1) old.stack.items (omega (arith, within))) ∙ (take_more old.stack.items (n - 1) d within ∙ ap (λ x. take (n - 1) old.stack.items ++ x ∷ []) (sym last)) in
+        record {
+          is_plan = record {
+            ordered = subst (AreOrdered 0) (sym nodes) p.is_plan.ordered;
+            stack_below = subst (λ ns. AreBelow (length ns) new.stack.items) (sym nodes) (subst (AreBelow (length old.nodes.items)) (sym stack) p.is_plan.stack_below);
+            saved_below = subst (λ ns. AreBelow (length ns) new.saved.items) (sym nodes) (subst (AreBelow (length old.nodes.items)) (sym saved)
+                (below-push _ old.saved.items k p.is_plan.saved_below (subst (λ v. v < length old.nodes.items) (sym last) (below-at _ old.stack.items (n - 1) d p.is_plan.stack_below within))));
+          };
+          grown = grown-on Mark is (
+            map (pick ts) (take (n - 1) old.stack.items),
+            pick ts k,
+            ap (map (pick ts)) split ∙ map_push (pick ts) (take (n - 1) old.stack.items) k,
+            trees-same _ _ _ _ (ap (λ ns. map (pick (built ns)) new.stack.items) nodes ∙ ap (map (pick ts)) stack)
+                (ap (λ ns. map (pick (built ns)) new.saved.items) nodes ∙ (ap (map (pick ts)) saved ∙ map_push (pick ts) old.saved.items k)),
+          );
+          stack_count = ap length stack ∙ (p.stack_count ∙ sym counts.1);
+          saved_count = (let s = ap length saved in let l = length-append old.saved.items (k ∷ []) in let c = p.saved_count in let m = counts.2 in omega (arith, s, l, c, m));
+        }
+
+    recall-on : (i k d : ℕ) → item ≡ Recall (suc i) → i < length old.saved.items → k ≡ get_or old.saved.items i d
+        → new.nodes.items ≡ old.nodes.items → new.stack.items ≡ old.stack.items ++ k ∷ [] → new.saved.items ≡ old.saved.items → IsPlanOf (walk_on w item held) new
+    recall-on i k d is lt at_i nodes stack saved =
+        let counts = recall-counts w item held done i is in
+        let ts = built old.nodes.items in
+        record {
+          is_plan = record {
+            ordered = subst (AreOrdered 0) (sym nodes) p.is_plan.ordered;
+            stack_below = subst (λ ns. AreBelow (length ns) new.stack.items) (sym nodes) (subst (AreBelow (length old.nodes.items)) (sym stack)
+                (below-push _ old.stack.items k p.is_plan.stack_below (subst (λ v. v < length old.nodes.items) (sym at_i) (below-at _ old.saved.items i d p.is_plan.saved_below lt))));
+            saved_below = subst (λ ns. AreBelow (length ns) new.saved.items) (sym nodes) (subst (AreBelow (length old.nodes.items)) (sym saved) p.is_plan.saved_below);
+          };
+          grown = grown-on (Recall (suc i)) is (
+            pick ts k,
+            get-map-some (pick ts) old.saved.items i d lt ∙ ap (λ v. Some (pick ts v)) (sym at_i),
+            trees-same _ _ _ _ (ap (λ ns. map (pick (built ns)) new.stack.items) nodes ∙ (ap (map (pick ts)) stack ∙ map_push (pick ts) old.stack.items k))
+                (ap (λ ns. map (pick (built ns)) new.saved.items) nodes ∙ ap (map (pick ts)) saved),
+          );
+          stack_count = (let s = ap length stack in let l = length-append old.stack.items (k ∷ []) in let c = p.stack_count in let m = counts.1 in omega (arith, s, l, c, m));
+          saved_count = ap length saved ∙ (p.saved_count ∙ sym counts.2);
+        }
+
+-- an assertion takes the last `count` numbers
+module _ (old mid new : TreePlan) (position count : ℕ) (range : SymbolRange) (children : Vec ℕ Global) (keep : ℕ) (kept : keep ≡ length old.stack.items - count)
+    (nodes : mid.nodes.items ≡ old.nodes.items) (stack : mid.stack.items ≡ take keep old.stack.items) (tail : children.items ≡ drop keep old.stack.items) (saved : mid.saved.items ≡ old.saved.items) (adds : AddsNode mid new (Apply position children))
+    (w : Walk) (item : Item) (held : HeldResults) (p : IsPlanOf w old) (done : IsDone w item held) (told : CitesAssertion position count range w item held) where
+  abbrev ts : List Derivation
+  ts = built old.nodes.items
+
+  enough : count ≤ length old.stack.items
+  enough = let c = p.stack_count in let n = told.pops in let l = ap length told.range_is.last in omega (arith, c, n, l, length-append told.range_is.stack (symbols_in held.symbols range ∷ []))
+
+  mid-plan : IsPlan mid
+  mid-plan = record {
+    ordered = subst (AreOrdered 0) (sym nodes) p.is_plan.ordered;
+    stack_below = subst (λ ns. AreBelow (length ns) mid.stack.items) (sym nodes) (subst (AreBelow (length old.nodes.items)) (sym stack) (below-take _ keep old.stack.items p.is_plan.stack_below));
+    saved_below = subst (λ ns. AreBelow (length ns) mid.saved.items) (sym nodes) (subst (AreBelow (length old.nodes.items)) (sym saved) p.is_plan.saved_below);
+  }
+
+  behind : AreBelow (length mid.nodes.items) children.items
+  behind = subst (λ ns. AreBelow (length ns) children.items) (sym nodes) (subst (AreBelow (length old.nodes.items)) (sym tail) (below-drop _ keep old.stack.items p.is_plan.stack_below))
+
+  grown-trees : trees_of new ≡ with_tree (trees_of old) (below count (trees_of old).stack) (apply position (from_list (top count (trees_of old).stack)))
+  grown-trees =
+      added-trees mid new (Apply position children) mid-plan adds.nodes adds.stack adds.saved
+      ∙ trees-same _ _ _ _
+      (ap (λ ns. map (pick (built ns)) mid.stack.items ++ apply position (from_list (map (pick (built ns)) children.items)) ∷ []) nodes
+      ∙ (ap (λ b. b ++ apply position (from_list (map (pick ts) children.items)) ∷ []) (rest-below ts old.stack.items mid.stack.items keep count kept stack)
+      ∙ ap (λ cs. below count (map (pick ts) old.stack.items) ++ apply position (from_list cs) ∷ []) (children-top ts old.stack.items children.items keep count kept tail)))
+      (ap (λ ns. map (pick (built ns)) mid.saved.items) nodes ∙ ap (map (pick ts)) saved)
+
+  pub assertion-on : IsPlanOf (walk_on w item held) new
+  assertion-on = record {
+    is_plan = added-plan mid new (Apply position children) mid-plan behind adds.nodes adds.stack adds.saved;
+    grown = grown-on old new w item held p (Cite told.label) told.cites
+        (assertion-grows w.statements w.at told.label position told.entry.0 told.entry.1 told.entry.2 (trees_of old) (trees_of new) count (told.taken told.entry.0 told.entry.1.stands)
+        (let e = enough in let l = length-map old.stack.items (pick ts) in omega (arith, e, l)) grown-trees);
+    stack_count = (let s = ap length adds.stack in let l = length-append mid.stack.items (length mid.nodes.items ∷ []) in let c = p.stack_count in let n = told.pops in let t = ap length stack in let u = length-take-le keep old.stack.items (omega (arith, kept)) in let e = enough in omega (arith, s, l, c, n, t, u, e, kept));
+    saved_count = ap length adds.saved ∙ (ap length saved ∙ (p.saved_count ∙ sym (cite-saved w item held done told.label told.cites)));
+  }
+
+-- ---- what the listener hears
+
+pub hears-hypothesis : (old new : TreePlan) (position : ℕ) (range : SymbolRange) → AddsNode old new (Hyp position) → Hears IsPlanOf (CitesHypothesis position range) old new
+hears-hypothesis old new position range adds w item held done told p = hypothesis-on old new w item held p done position range adds told
+
+pub hears-assertion : (old mid new : TreePlan) (position count : ℕ) (range : SymbolRange) (children : Vec ℕ Global) (keep : ℕ) → keep ≡ length old.stack.items - count
+    → mid.nodes.items ≡ old.nodes.items → mid.stack.items ≡ take keep old.stack.items → children.items ≡ drop keep old.stack.items → mid.saved.items ≡ old.saved.items → AddsNode mid new (Apply position children) → Hears IsPlanOf (CitesAssertion position count range) old new
+hears-assertion old mid new position count range children keep kept nodes stack tail saved adds w item held done told p = assertion-on old mid new position count range children keep kept nodes stack tail saved adds w item held p done told
+
+pub hears-mark : (old new : TreePlan) (k d : ℕ) → k ≡ get_or old.stack.items (length old.stack.items - 1) d → new.nodes.items ≡ old.nodes.items → new.stack.items ≡ old.stack.items → new.saved.items ≡ old.saved.items ++ k ∷ [] → Hears IsPlanOf IsMark old new
+hears-mark old new k d last nodes stack saved w item held done told p = mark-on old new w item held p done k d told last nodes stack saved
+
+pub hears-no-mark : (old new : TreePlan) → length old.stack.items ≤ 0 → Hears IsPlanOf IsMark old new
+hears-no-mark old new none w item held done told p = absurd (let c = p.stack_count in let some = (mark-counts w item held done told).0 in omega (arith, none, c, some))
+
+pub hears-recall : (old new : TreePlan) (i k d : ℕ) → i < length old.saved.items → k ≡ get_or old.saved.items i d → new.nodes.items ≡ old.nodes.items → new.stack.items ≡ old.stack.items ++ k ∷ [] → new.saved.items ≡ old.saved.items → Hears IsPlanOf (IsRecall i) old new
+hears-recall old new i k d lt at_i nodes stack saved w item held done told p = recall-on old new w item held p done i k d told lt at_i nodes stack saved
+
+pub hears-no-recall : (old new : TreePlan) (i : ℕ) → length old.saved.items ≤ i → Hears IsPlanOf (IsRecall i) old new
+hears-no-recall old new i over w item held done told p = absurd (let c = p.saved_count in let some = (recall-counts w item held done i told).0 in omega (arith, over, c, some))
+
+-- ---- extents
 
 nodes_in-snoc : (ts : List Derivation) (t : Derivation) → nodes_in (from_list (ts ++ t ∷ [])) ≡ nodes_in (from_list ts) + node_count t
 nodes_in-snoc [] t = omega arith

@@ -1,5 +1,5 @@
 -- Results as ranges of a buffer that grows.
-use Rattle.verify.proofs.Words.{◌≡◌, ℕ, zero, suc, ◌+◌, ◌-◌, ◌<◌, ◌≤◌, List, [], ◌∷◌, ◌++◌, length, map, take, drop, get_or, replicate, slice_get, slice_set, Some, refl, option_map, sym, ◌∙◌, ap, subst, arith, length-append, length-drop, length-map, map-set, take-map, drop-map, map_push, take_rest, slice_get-map, slice_get-get_or, get_or_from_slice_get, SymbolRange, symbols_in, AreWithin, AreInside, map-seen-more, within-weaken, within-snoc, within-take, within-drop, within-get, within-at, seen-get, length-seen, seen-last, inside-more, inside-none, Results, with_result, IsSaved, results_in, AreResultRanges, CachesLast, below, top, weight_limit, get-last}
+use Rattle.verify.proofs.Words.{◌≡◌, ℕ, zero, suc, ◌+◌, ◌-◌, ◌<◌, ◌≤◌, List, [], ◌∷◌, ◌++◌, length, map, take, drop, get_or, slice_get, Some, refl, option_map, sym, ◌∙◌, ap, subst, arith, length-append, length-drop, length-map, take-map, drop-map, map_push, take_rest, slice_get-map, slice_get-get_or, SymbolRange, symbols_in, AreWithin, AreInside, map-seen-more, within-weaken, within-snoc, within-take, within-drop, within-get, within-at, seen-get, length-seen, seen-last, inside-more, inside-none, Results, with_result, IsSaved, results_in, AreResultRanges, below, top, weight_limit, take_all, take_more, Bool, true, false, HeldResults, IsKept}
 
 pub map-drop : {A B : Type 0} (f : A → B) (k : ℕ) (xs : List A) → map f (drop k xs) ≡ drop k (map f xs)
 map-drop f k xs = sym (drop-map f k xs)
@@ -43,28 +43,6 @@ added-seen xs ys zs stack rest saved stack' w v p k r e low high whole weighs =
     ∙ ap (λ s. map (symbols_in xs) rest ++ s ∷ []) (seen-last xs ys zs p e low high))))
     (ap (λ s. map (symbols_in s) saved) e ∙ map-seen-more xs ys saved k)
     weighs
-
--- ---- a range is replaced
-
-within-set : (n k : ℕ) (ps : List SymbolRange) (p : SymbolRange) → AreWithin n ps → p.start ≤ p.end → p.end ≤ n → AreWithin n (slice_set ps k p)
-within-set n k [] p w low high = tt
-within-set n zero (q ∷ ps) p w low high = (low, high, w.2)
-within-set n (suc k) (q ∷ ps) p w low high = (w.0, w.1, within-set n k ps p w.2 low high)
-
-pub kept-keep : (xs : List ℕ) (images : List (ℕ × SymbolRange)) (stack saved saved' : List SymbolRange) (w k label : ℕ) (p : SymbolRange) → AreResultRanges xs images stack saved w → slice_get stack k ≡ Some p → saved' ≡ slice_set saved label p
-    → AreResultRanges xs images stack saved' w
-kept-keep xs images stack saved saved' w k label p a h e =
-    let b = within-get (length xs) k stack p a.stack_within h in
-    record { images_inside = a.images_inside; stack_within = a.stack_within; saved_within = subst (AreWithin (length xs)) (sym e) (within-set (length xs) label saved p a.saved_within b.0 b.1); few = a.few; light = a.light }
-
-pub keep-seen : (xs : List ℕ) (stack saved saved' : List SymbolRange) (w label : ℕ) (p : SymbolRange) → slice_get stack (length stack - 1) ≡ Some p → saved' ≡ slice_set saved label p → CachesLast (results_in xs stack saved w) (results_in xs stack saved' w) label
-keep-seen xs stack saved saved' w label p last set = λ rest e split.
-    let low = length stack - 1 in
-    let same : symbols_in xs p ≡ e =
-    sym (get_or_from_slice_get (map (symbols_in xs) stack) low (symbols_in xs p) [] (slice_get-map (symbols_in xs) stack low ∙ ap (option_map (symbols_in xs)) last))
-    ∙ (ap (λ r. get_or r low []) split ∙ get-last rest e low [] (omega (arith, ap length split, length-append rest (e ∷ []), length-map stack (symbols_in xs)))) in
-    results-same (map (symbols_in xs) stack) (map (symbols_in xs) stack) (map (symbols_in xs) saved') (slice_set (map (symbols_in xs) saved) label e) w w refl
-    (ap (map (symbols_in xs)) set ∙ (map-set (symbols_in xs) saved label p ∙ ap (slice_set (map (symbols_in xs) saved) label) same)) refl
 
 -- ---- marks and recalls
 
@@ -113,48 +91,29 @@ recall-heavy xs saved w k d p a light less at heavy e h =
     let same : e ≡ symbols_in xs p = get-map (symbols_in xs) saved k e h d ∙ ap (symbols_in xs) (sym at) in
     omega (arith, ap length same, len, heavy, light)
 
--- if the saved range at an index is not empty, the saved result has symbols
-pub some-saved : (xs : List ℕ) (saved : List SymbolRange) (k : ℕ) (p d : SymbolRange) → AreWithin (length xs) saved → k < length saved → p ≡ get_or saved k d → p.start < p.end → 0 < length (get_or (map (symbols_in xs) saved) k [])
-some-saved xs saved k p d a within at less =
-    let b = within-at (length xs) k saved d a within in
-    let more : (get_or saved k d).start < (get_or saved k d).end = subst (λ r. r.start < r.end) at less in
-    omega (arith, length-seen xs (get_or saved k d) b.0 b.1, more, ap length (seen-get xs k saved d within))
-
--- empty ranges lie within any buffer
-pub within-none : (n m : ℕ) → AreWithin m (replicate n (let p : SymbolRange = record { start = 0; end = 0 } in p))
-within-none zero m = tt
-within-none (suc n) m = (omega arith, omega arith, within-none n m)
-
-pub seen-none : (n : ℕ) → map (symbols_in []) (replicate n (let p : SymbolRange = record { start = 0; end = 0 } in p)) ≡ replicate n []
-seen-none zero = refl
-seen-none (suc n) = ap (λ r. [] ∷ r) (seen-none n)
-
-pub cleared-kept : (xs : List ℕ) (images : List (ℕ × SymbolRange)) (stack saved : List SymbolRange) → xs ≡ [] → images ≡ [] → stack ≡ [] → AreWithin 0 saved → AreResultRanges xs images stack saved 0
+pub cleared-kept : (xs : List ℕ) (images : List (ℕ × SymbolRange)) (stack saved : List SymbolRange) → xs ≡ [] → images ≡ [] → stack ≡ [] → saved ≡ [] → AreResultRanges xs images stack saved 0
 cleared-kept xs images stack saved e i f w = record {
   images_inside = subst (AreInside (length xs)) (sym i) (inside-none (length xs));
   stack_within = subst (AreWithin (length xs)) (sym f) tt;
-  saved_within = subst (λ n. AreWithin n saved) (sym (ap length e)) w;
+  saved_within = subst (AreWithin (length xs)) (sym w) tt;
   few = (let l = ap length e in omega (arith, l));
   light = omega arith;
 }
 
-pub resized-none : (n m : ℕ) (old new : List SymbolRange) → old ≡ [] → m ≡ 0 → new ≡ take n old ++ replicate (n - m) (let p : SymbolRange = record { start = 0; end = 0 } in p) → new ≡ replicate n (let p : SymbolRange = record { start = 0; end = 0 } in p)
-resized-none n m old new e f g =
-    g ∙ (ap (λ r. take n r ++ replicate (n - m) (let p : SymbolRange = record { start = 0; end = 0 } in p)) e
-    ∙ (ap (λ r. r ++ replicate (n - m) (let p : SymbolRange = record { start = 0; end = 0 } in p)) (none n)
-    ∙ ap (λ k. replicate k (let p : SymbolRange = record { start = 0; end = 0 } in p)) (let q : n - m ≡ n = omega (arith, f) in q)))
-  where
-    none : (k : ℕ) → take k (let r : List SymbolRange = [] in r) ≡ []
-    none zero = refl
-    none (suc k) = refl
-
-pub started-seen : (xs : List ℕ) (n : ℕ) (stack saved : List SymbolRange) → xs ≡ [] → stack ≡ [] → saved ≡ replicate n (let p : SymbolRange = record { start = 0; end = 0 } in p)
-    → results_in xs stack saved 0 ≡ (let r : Results ℕ = record { stack = []; saved = replicate n []; weight = 0 } in r)
-started-seen xs n stack saved e f g =
-    results-same (map (symbols_in xs) stack) [] (map (symbols_in xs) saved) (replicate n []) 0 0
-    (ap (map (symbols_in xs)) f) (ap (λ s. map (symbols_in s) saved) e ∙ (ap (map (symbols_in [])) g ∙ seen-none n)) refl
-
 -- ---- the last results
+
+-- the last range lies within the buffer
+pub range-last : (xs : List ℕ) (stack : List SymbolRange) (p d : SymbolRange) → AreWithin (length xs) stack → 0 < length stack → p ≡ get_or stack (length stack - 1) d
+    → (p.start ≤ p.end) × (p.end ≤ length xs) × (map (symbols_in xs) stack ≡ map (symbols_in xs) (take (length stack - 1) stack) ++ symbols_in xs p ∷ [])
+range-last xs stack p d within some at =
+    let b = saved-at (length xs) (length stack - 1) stack p d within (omega (arith, some)) at in
+    let split : stack ≡ take (length stack - 1) stack ++ p ∷ [] = sym (take_all (length stack - 1 + 1) stack (omega (arith, some))) ∙ (take_more stack (length stack - 1) d (omega (arith, some)) ∙ ap (λ q. take (length stack - 1) stack ++ q ∷ []) (sym at)) in
+    (b.0, b.1, ap (map (symbols_in xs)) split ∙ map_push (symbols_in xs) (take (length stack - 1) stack) p)
+
+-- results that are kept since others that are equal
+pub kept-as : (ok : Bool) (old old' new : HeldResults) → old'.results ≡ old.results → old'.symbols ≡ old.symbols → IsKept ok old' new → IsKept ok old new
+kept-as true old old' new r s k = (k.0, k.1 ∙ ap (λ xs. xs ++ k.0) s)
+kept-as false old old' new r s k = (k.0 ∙ r, k.1 ∙ s)
 
 -- there are r places of the last r results
 pub last-count : {A : Type 0} (k r : ℕ) (s : List A) → r ≤ length s → k ≡ length s - r → length (take (length s - k) (drop k s)) ≡ r

@@ -1,5 +1,5 @@
 -- A run that stops, and whether its items are right.
-use Rattle.verify.proofs.Words.{◌≡◌, ℕ, ◌+◌, ◌<◌, ◌≤◌, false, List, [], ◌∷◌, ◌++◌, length, map, take, drop, get_or, Some, slice_get, sym, ◌∙◌, ap, subst, arith, length-map, take-append-drop, take-map, take_all, drop_more, slice_get-map, slice_get-get_or, slice_get_within, some-same, option_map, Name, Stmt, Database, stmt_at, expr_of, decode, Item, Mark, Results, start, Runs, RunsItem, AreBelow, named, RunsItemByNumber, HasLegalProperties, item_of, items_of, IsRight, weight_limit, StopsAt, LabelEntry, AreEntries, without_cached}
+use Rattle.verify.proofs.Words.{◌≡◌, ℕ, ◌+◌, ◌<◌, ◌≤◌, false, List, [], ◌∷◌, ◌++◌, length, map, take, drop, get_or, Some, slice_get, sym, ◌∙◌, ap, subst, arith, length-map, take-append-drop, take-map, take_all, drop_more, slice_get-map, slice_get-get_or, slice_get_within, some-same, option_map, Name, Stmt, Database, stmt_at, expr_of, decode, Item, Mark, Results, start, Runs, RunsItem, AreBelow, named, RunsItemByNumber, HasLegalProperties, item_of, items_of, IsRight, weight_limit, StopsAt, LabelEntry, AreEntries}
 use Rattle.verify.proofs.Decide.{refuted_at_step, accepts_right}
 use Rattle.verify.proofs.StepLemmas.{Reached, right-end, wrong-end}
 
@@ -64,9 +64,8 @@ pub count-items : (labels : List Name) (numbers : List ℕ) (items : List Item) 
 count-items labels numbers items is = sym (ap length is) ∙ length-map numbers (item_of labels)
 
 -- the run over the items stops where the run over the numbers does
-pub stopped : (S : Database) (names : List Name) (at : ℕ) (labels : List Name) (numbers : List ℕ) (items : List Item) (table copy : List LabelEntry) (n done : ℕ) (st : Results ℕ)
-    → items_of labels numbers ≡ items → copy ≡ table → n ≡ length table → AreEntries S at labels table
-    → ((labels : List Name) → AreEntries S at labels copy → StopsAt S at names (items_of labels numbers) done (without_cached (length copy) st)) → StopsAt S at names items done (without_cached n st)
-stopped S names at labels numbers items table copy n done st is same count entries stops =
-    subst (λ k. StopsAt S at names items done (without_cached k st)) (ap length same ∙ sym count)
-    (subst (λ l. StopsAt S at names l done (without_cached (length copy) st)) is (stops labels (subst (AreEntries S at labels) (sym same) entries)))
+pub stopped : (S : Database) (names : List Name) (at : ℕ) (labels : List Name) (numbers : List ℕ) (items : List Item) (table copy : List LabelEntry) (done : ℕ) (st : Results ℕ)
+    → items_of labels numbers ≡ items → copy ≡ table → AreEntries S at labels table
+    → ((labels : List Name) → AreEntries S at labels copy → StopsAt S at names (items_of labels numbers) done st) → StopsAt S at names items done st
+stopped S names at labels numbers items table copy done st is same entries stops =
+    subst (λ l. StopsAt S at names l done st) is (stops labels (subst (AreEntries S at labels) (sym same) entries))

@@ -17,6 +17,7 @@ pub use Rattle.frame.specs.WellTyped.{HasFloat, IsWellTyped, BeginsWithNoVariabl
 pub use Rattle.frame.specs.Citations.{Carries, IsHypothesis, IsInstance, AreImagesOfVariables, expr_at, is_hypothesis_kind, option_expr, premises}
 pub use Rattle.frame.specs.Disjoint.{are_disjoint, are_groups_disjoint, is_group_disjoint}
 pub use Rattle.frame.specs.FrameOf.{HasAssertion, hypotheses, is_hypothesis, mandatory_groups}
+pub use Rattle.frame.specs.Parts.{Numbered}
 pub use Rattle.frame.specs.Substitution.{CodeImages, Images, apply as applied, code_apply, code_image, image, images_of_names}
 pub use Rattle.mm_lex.specs.Alphabet.{Name, has_name, name_eq}
 pub use Rattle.mm_read.specs.Statements.{Database, Expr}
@@ -44,7 +45,7 @@ pub use Rattle.std.proofs.lemmas.List.Folds.{list_any-append}
 pub use Rattle.std.proofs.lemmas.List.Sorted.{searched}
 pub use Rattle.std.proofs.lemmas.List.{drop-append-le, drop-drop, drop-map, drop-set-lt, drop-take, drop_all, drop_at, drop_more, ext_get_or, get_or-replicate, get_or-set_other, get_or-set_same, get_or_default, length-map, length-replicate, length-set, length-take-le, length_push, map-append, map-set, map_more, map_push, nil_from_length, same_from_push, take-append-drop, take-map, take_all, take_at, take_more, take_rest}
 pub use Rattle.std.proofs.lemmas.Option.{get_or_from_slice_get, same_Some, slice_get-get_or, slice_get-map, slice_get_within}
-pub use Rattle.std.proofs.lemmas.Result.{IfOk-at_ok, IfOk-weaker}
+pub use Rattle.std.proofs.lemmas.Result.{IfOk-at_ok, IfOk-weaker, on_ok_weaker}
 pub use Rattle.std.proofs.lemmas.Slice.Eq.{bytes_eq-Decides}
 pub use Rattle.std.specs.Cmp.{both_ways}
 pub use Rattle.std.specs.List.Sorted.{IsNonDecreasing}
@@ -66,18 +67,19 @@ pub use Rattle.verify.specs.Concludes.{ConcludeAll, Concludes}
 pub use Rattle.verify.specs.Derivations.{Derivation, Derivations, apply, depth, depth_in, derivation_of, derivation_step, from_list, hyp, more, node_count, nodes_in, none}
 pub use Rattle.verify.specs.Extents.{extent_of}
 pub use Rattle.verify.specs.HypothesisResults.{AreDifferent, AreRead, ArePresent, HasSeenEssentials, HasSeenEssentialsBefore, HypothesesMatch, HypothesisMatches, IsPresent, IsTyped, Reads}
-pub use Rattle.verify.specs.Growth.{Builds, Grew, Grows, GrowsBy, IsSavedTree, Trees, a_hypothesis, an_assertion, trees, with_tree}
+pub use Rattle.verify.specs.Growth.{Builds, Grows, GrowsBy, IsSavedTree, Trees, a_hypothesis, an_assertion, trees, with_tree}
 pub use Rattle.verify.specs.LabelTable.{AreEntries, IsEntry, is_hypothesis_among}
 pub use Rattle.verify.specs.Laws.{RunsSpell, SpelledOnce, SpellingsRun}
 pub use Rattle.verify.specs.Machine.{Cites, IsSaved, Results, Runs, State, RunsItem, of_assertion, of_hypothesis, start, with_mark, with_result}
-pub use Rattle.verify.specs.Plan.{AreOrdered, IsAfter, IsPlan, built, built_from, derive, pick, trees_of}
+pub use Rattle.verify.specs.Plan.{AddsNode, AreOrdered, IsAfter, IsPlan, IsPlanOf, built, built_from, derive, pick, trees_of}
 pub use Rattle.verify.specs.Proves.{Proves, label_or_empty, mandatory_labels}
 pub use Rattle.verify.specs.ReadPlaces.{BeginsWith, IsMistyped, ReadTo, ReadsAll, tail_of}
-pub use Rattle.verify.specs.ResultPlaces.{Adds, AreResultRanges, CachesLast, Marks, Recalls, UnchangedUnlessDone, below, results_in, top}
+pub use Rattle.verify.specs.ResultPlaces.{Adds, AreResultRanges, HeldResults, IsKept, Marks, Recalls, below, results_in, top}
 pub use Rattle.verify.specs.Right.{Derives, IsProvable, IsRight, IsSmall, IsAnswerTo, weight_limit}
 pub use Rattle.verify.specs.Spells.{IsCitable, Spells, SpellsAll, cites_assertion, cites_hypothesis, marks, recalls, spells_more, spells_none}
-pub use Rattle.verify.specs.RunsItemByNumber.{AreCached, AreNamedAndCached, AreNamed, HasCited, IsCached, MayCite, RunsItemByNumber, RunsItemWithTable, without_cached, named}
-pub use Rattle.verify.specs.Stops.{StopsAt}
+pub use Rattle.verify.specs.RunsItemByNumber.{AreNamed, HasCited, MayCite, RunsItemByNumber, RunsItemIn, named}
+pub use Rattle.verify.specs.Stops.{HasHeardAll, IsFirstFailure, IsOutcome, IsStopped, StopsAt}
+pub use Rattle.verify.specs.Walk.{CitesAssertion, CitesHypothesis, Hears, IsDone, IsHeard, IsLastRange, IsMark, IsRecall, Walk, walk, walk_on, walk_start}
 pub use Rattle.verify.specs.declared.answer.Answer.TheVariants.{Proved, Wrong}
 pub use Rattle.verify.specs.declared.answer.Answer.{Answer}
 pub use Rattle.verify.specs.declared.citation.ProofContext.{ProofContext}

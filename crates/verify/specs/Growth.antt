@@ -1,7 +1,7 @@
 -- The effect of one item on the derivations so far: a machine over derivations.
 -- Metamath, 4.2.6 and appendix B: the stack of a proof, read as trees.
 -- The code keeps each node once, by number; here the trees are whole.
-use Rattle.std.specs.Prelude.{◌≡◌, ℕ, zero, suc, Bool, true, false, List, [], ◌∷◌, ◌++◌, length, Some, slice_get}
+use Rattle.std.specs.Prelude.{◌≡◌, ℕ, zero, suc, List, [], ◌∷◌, ◌++◌, length, Some, slice_get}
 use Rattle.verify.specs.Words.{Name, Stmt, Database, before, hypotheses, Carries, IsHypothesis, Item, Cite, Recall, Mark}
 use Rattle.verify.specs.Derivations.{Derivation, hyp, apply, from_list}
 use Rattle.verify.specs.Spells.{IsCitable}
@@ -36,11 +36,6 @@ Grows S at st Mark st' = (below : List Derivation) × (t : Derivation) × (st.st
 abbrev pub GrowsBy : Database → ℕ → Trees → List Item → Trees → Type 0
 GrowsBy S at st [] st' = st ≡ st'
 GrowsBy S at st (item ∷ items) st' = (next : Trees) × Grows S at st item next × GrowsBy S at next items st'
-
--- the item was done, or it cannot be done
-abbrev pub Grew : Bool → Database → ℕ → Trees → Item → Trees → Type 0
-Grew true S at old item new = Grows S at old item new
-Grew false S at old item new = (next : Trees) → Grows S at old item next → ⊥
 
 -- t in place of the derivations above `below`
 abbrev pub with_tree : Trees → List Derivation → Derivation → Trees

@@ -8,6 +8,7 @@ pub mod ResultPlaces
 pub mod HypothesisResults
 pub mod ReadPlaces
 pub mod RunsItemByNumber
+pub mod Walk
 pub mod Stops
 pub mod LabelTable
 pub mod Growth

@@ -1,13 +1,16 @@
 -- The plan of a derivation: numbered nodes, each after its children.
 -- In a tree a recalled derivation occurs again; a plan has its nodes once.
 -- The code makes a plan first, measures it, and makes the tree if it is small.
-use Rattle.std.specs.Prelude.{ℕ, ◌+◌, List, [], ◌∷◌, ◌++◌, length, map, get_or}
+use Rattle.std.specs.Prelude.{◌≡◌, ℕ, ◌+◌, List, [], ◌∷◌, ◌++◌, length, map, get_or}
 use Rattle.frame.specs.Below.{AreBelow}
 use Rattle.verify.specs.declared.plan.Node.{Node}
 use Rattle.verify.specs.declared.plan.TreePlan.{TreePlan}
 use Rattle.verify.specs.declared.plan.Node.TheVariants.{Hyp, Apply}
 use Rattle.verify.specs.Derivations.{Derivation, hyp, apply, from_list}
-use Rattle.verify.specs.Growth.{Trees, trees}
+use Rattle.verify.specs.Growth.{GrowsBy, Trees, trees}
+use Rattle.verify.specs.Right.{IsRight}
+use Rattle.verify.specs.Walk.{Walk}
+use Rattle.verify.specs.Words.{Database, Item}
 
 -- the derivation with this number
 abbrev pub pick : List Derivation → ℕ → Derivation
@@ -50,3 +53,22 @@ pub record IsPlan (p : TreePlan) : Type 0 where
   pub ordered : AreOrdered 0 p.nodes.items
   pub stack_below : AreBelow (length p.nodes.items) p.stack.items
   pub saved_below : AreBelow (length p.nodes.items) p.saved.items
+
+-- a node is appended, and its number is pushed onto the stack
+pub record AddsNode (old new : TreePlan) (node : Node) : Type 0 where
+  pub nodes : new.nodes.items ≡ old.nodes.items ++ node ∷ []
+  pub stack : new.stack.items ≡ old.stack.items ++ length old.nodes.items ∷ []
+  pub saved : new.saved.items ≡ old.saved.items
+
+-- the trees of the plan are those that the items of the walk grow, one for each result
+pub record IsPlanOf (w : Walk) (p : TreePlan) : Type 0 where
+  pub is_plan : IsPlan p
+  pub grown : GrowsBy w.statements w.at (trees [] []) w.items (trees_of p)
+  pub stack_count : length p.stack.items ≡ length w.results.stack
+  pub saved_count : length p.saved.items ≡ length w.results.saved
+
+-- the items are a right proof, and the plan has the tree that they grow
+pub record IsRightPlan (S : Database) (at : ℕ) (items : List Item) (p : TreePlan) : Type 0 where
+  pub right : IsRight S at items
+  pub is_plan : IsPlan p
+  pub grown : GrowsBy S at (trees [] []) items (trees_of p)

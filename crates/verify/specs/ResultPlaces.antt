@@ -1,15 +1,16 @@
 -- Results that are ranges of one buffer, and images that were read from some of them.
 -- Metamath, 4.2.6: the stack of a proof.
 -- The code keeps the range of each result; here the results are lists of symbols.
-use Rattle.std.specs.Prelude.{◌≡◌, ℕ, ◌+◌, ◌-◌, ◌<◌, ◌≤◌, Bool, true, false, List, [], ◌∷◌, ◌++◌, length, map, drop, take, slice_set, get_or, suc, Option, Some, None}
+use Rattle.std.specs.Prelude.{◌≡◌, ℕ, ◌+◌, ◌-◌, ◌<◌, ◌≤◌, Bool, true, false, List, [], ◌∷◌, ◌++◌, length, map, drop, take}
 use Rattle.verify.specs.Words.{CodeImages, SymbolRange, symbols_in, images_at, AreWithin, AreInside}
 use Rattle.verify.specs.Machine.{Results, with_result, with_mark, IsSaved}
 use Rattle.verify.specs.Right.{weight_limit}
 
--- results and images
+-- results and images, and the symbols of the buffer
 pub record HeldResults : Type 0 where
   pub results : Results ℕ
   pub images : CodeImages
+  pub symbols : List ℕ
 
 -- the results in these ranges
 abbrev pub results_in : List ℕ → List SymbolRange → List SymbolRange → ℕ → Results ℕ
@@ -17,7 +18,7 @@ results_in symbols stack saved weight = record { stack = map (symbols_in symbols
 
 -- the results and images in these ranges
 abbrev pub held : List ℕ → List (ℕ × SymbolRange) → List SymbolRange → List SymbolRange → ℕ → HeldResults
-held symbols images stack saved weight = record { results = results_in symbols stack saved weight; images = images_at symbols images }
+held symbols images stack saved weight = record { results = results_in symbols stack saved weight; images = images_at symbols images; symbols = symbols }
 
 -- all ranges are in the buffer, which has no more symbols than the weight, and the weight is within
 -- the limit
@@ -41,15 +42,11 @@ abbrev pub Adds : {A : Type 0} → Bool → Results A → Results A → List (Li
 Adds true old new stack e = new ≡ with_result old stack e
 Adds false old new stack e = weight_limit < old.weight + length e
 
--- if the item is not done, the results are unchanged
-abbrev pub UnchangedUnlessDone : {A : Type 0} → Bool → Results A → Results A → Type 0
-UnchangedUnlessDone true old new = Unit {0}
-UnchangedUnlessDone false old new = new ≡ old
-
--- the last result is saved as number k, from 0
-abbrev pub CachesLast : {A : Type 0} → Results A → Results A → ℕ → Type 0
-CachesLast {A} old new k = (stack : List (List A)) (e : List A) → old.stack ≡ stack ++ e ∷ []
-    → new ≡ record { stack = old.stack; saved = slice_set old.saved k e; weight = old.weight }
+-- the item was done, and only appends symbols; or it was not done, and results and symbols are
+-- unchanged
+abbrev pub IsKept : Bool → HeldResults → HeldResults → Type 0
+IsKept true old new = (e : List ℕ) × (new.symbols ≡ old.symbols ++ e)
+IsKept false old new = (new.results ≡ old.results) × (new.symbols ≡ old.symbols)
 
 -- the last result was marked, or there is none
 abbrev pub Marks : {A : Type 0} → Bool → Results A → Results A → Type 0
@@ -61,9 +58,3 @@ Marks false old new = old.stack ≡ []
 abbrev pub Recalls : {A : Type 0} → Bool → Results A → Results A → ℕ → Type 0
 Recalls {A} true old new k = (e : List A) × IsSaved old.saved k e × (new ≡ with_result old old.stack e)
 Recalls {A} false old new k = (e : List A) → IsSaved old.saved k e → weight_limit < old.weight + length e
-
--- the result saved at an index, from 0, is recalled, and has symbols if the index is a label's; or
--- the index is a label's, and nothing is done
-abbrev pub RecallsAt : {A : Type 0} → Option Bool → ℕ → Results A → Results A → ℕ → Type 0
-RecallsAt None label_count old new k = (k < label_count) × (new ≡ old)
-RecallsAt (Some ok) label_count old new k = (k < label_count → 0 < length (get_or old.saved k [])) × Recalls ok old new (suc k)

@@ -1,12 +1,11 @@
 -- The effect of one item on results of numbers, stated over the names that they stand for.
 -- Metamath, 4.2.6 and appendix B; `Machine` defines the same over names.
 -- The program knows only the numbers of symbols, here called codes; each has a name.
-use Rattle.std.specs.Prelude.{◌≡◌, ℕ, ◌<◌, ◌≤◌, Bool, true, false, IsTrue, List, [], length, map, drop, get_or, Some}
-use Rattle.verify.specs.Words.{Name, Stmt, Expr, Database, before, AllBelow, Item, Cite, decode, HasLegalProperties, HasAssertion, AssertionView, IsViewOf, stmt_at}
+use Rattle.std.specs.Prelude.{◌≡◌, ℕ, ◌<◌, Bool, true, false, List, length, map, Some}
+use Rattle.verify.specs.Words.{Name, Stmt, Database, before, AllBelow, Item, Cite, decode, HasLegalProperties, HasAssertion, AssertionView, IsViewOf, stmt_at}
 use Rattle.verify.specs.declared.label_table.LabelEntry.{LabelEntry}
-use Rattle.verify.specs.declared.label_table.LabelEntry.TheVariants.{Nothing}
 use Rattle.verify.specs.LabelTable.{AreEntries, IsEntry}
-use Rattle.verify.specs.Machine.{Results, State, Cites, RunsItem}
+use Rattle.verify.specs.Machine.{Results, State, RunsItem}
 use Rattle.verify.specs.ResultPlaces.{HeldResults}
 use Rattle.verify.specs.Right.{weight_limit}
 use Rattle.verify.specs.declared.citation.ProofContext.{ProofContext}
@@ -25,48 +24,18 @@ abbrev pub RunsItemByNumber : Bool → Database → ℕ → List Name → Item �
 RunsItemByNumber true S at names item old new = RunsItem S at (named names old) item (named names new) × AreNamed names new
 RunsItemByNumber false S at names item old new = (next : State) → RunsItem S at (named names old) item next → weight_limit < next.weight
 
--- a label with this meaning was cited, which saves nothing; or it cannot be cited within the limit
+-- a label with this meaning was cited, or it cannot be cited within the limit
 abbrev pub HasCited : Database → ℕ → List Name → LabelEntry → Results ℕ → Results ℕ → Bool → Type 0
-HasCited S at names entry old new ok = ((label : Name) → IsEntry S at label entry → RunsItemByNumber ok S at names (Cite label) old new) × (IsTrue ok → new.saved ≡ old.saved)
+HasCited S at names entry old new ok = (label : Name) → IsEntry S at label entry → RunsItemByNumber ok S at names (Cite label) old new
 
--- in the context of a proof, a label with this meaning was cited, which saves nothing; or it cannot
--- be cited within the limit
+-- in the context of a proof, a label with this meaning was cited, or it cannot be cited within the
+-- limit
 abbrev pub HasCitedIn : ProofContext → LabelEntry → HeldResults → HeldResults → Bool → Type 0
 HasCitedIn context entry old new ok = HasCited context.frames.now.statements context.at context.frames.now.names entry old.results new.results ok
 
--- ---- results that are cached for the labels of the table, saved before those that were marked
-
--- the results without the n cached ones
-abbrev pub without_cached : ℕ → Results ℕ → Results ℕ
-without_cached n st = record { stack = st.stack; saved = drop n st.saved; weight = st.weight }
-
--- e is empty, so nothing is cached for the label; or citing the label pushes e onto any stack, and
--- pops nothing
-abbrev pub IsCached : Database → ℕ → List Name → LabelEntry → List ℕ → Type 0
-IsCached S at names entry e = 0 < length e → (label : Name) → IsEntry S at label entry → (stack : List Expr) → Cites S at label stack stack (decode names e)
-
--- the first saved results are the cached ones, one for each label of the table
-pub record AreCached (S : Database) (at : ℕ) (names : List Name) (table : List LabelEntry) (saved : List (List ℕ)) : Type 0 where
-  pub enough : length table ≤ length saved
-  pub each : (k : ℕ) → k < length table → IsCached S at names (get_or table k Nothing) (get_or saved k [])
-
--- the codes have names, and the cached results are right
-pub record AreNamedAndCached (S : Database) (at : ℕ) (names : List Name) (table : List LabelEntry) (st : Results ℕ) : Type 0 where
-  pub are_named : AreNamed names st
-  pub cached : AreCached S at names table st.saved
-
--- in the context of a proof, the codes have names, and the cached results are right
-abbrev pub AreNamedAndCachedIn : ProofContext → List LabelEntry → HeldResults → Type 0
-AreNamedAndCachedIn context table st = AreNamedAndCached context.frames.now.statements context.at context.frames.now.names table st.results
-
--- the effect of an item if the first saved results are cached for labels
-abbrev pub RunsItemWithTable : Bool → Database → ℕ → List Name → List LabelEntry → Item → Results ℕ → Results ℕ → Type 0
-RunsItemWithTable ok S at names table item old new = RunsItemByNumber ok S at names item (without_cached (length table) old) (without_cached (length table) new)
-    × (IsTrue ok → AreNamedAndCached S at names table new)
-
--- in the context of a proof, the effect of an item if the first saved results are cached for labels
-abbrev pub RunsItemIn : ProofContext → List LabelEntry → Item → HeldResults → HeldResults → Bool → Type 0
-RunsItemIn context table item old new ok = RunsItemWithTable ok context.frames.now.statements context.at context.frames.now.names table item old.results new.results
+-- in the context of a proof, the item was done, or it cannot be done within the limit
+abbrev pub RunsItemIn : ProofContext → Item → HeldResults → HeldResults → Bool → Type 0
+RunsItemIn context item old new ok = RunsItemByNumber ok context.frames.now.statements context.at context.frames.now.names item old.results new.results
 
 -- ---- the requirements for running an item
 

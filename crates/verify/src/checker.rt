@@ -13,6 +13,7 @@ use crate::answer::Answer;
 use crate::citation::{Buffers, ProofContext};
 use crate::failure::run_items;
 use crate::label_table::{LabelEntry, add_listed, fill_mandatory, fill_table};
+use crate::listener::Silent;
 use crate::results::Results;
 use frame::{FrameBuffers, Frames};
 use mm_lex::Words;
@@ -190,7 +191,7 @@ fn check_numbers(
 {
     let pairs = frames.active_pairs(at);
     let context = ProofContext { frames, at, pairs };
-    let done = run_items(&context, table, numbers, buffers)?;
+    let done = run_items(&context, table, numbers, buffers, &mut Silent)?;
     if done == numbers.len() && buffers.results.is_only(frames.expr(at)) {
         Ok(Answer::Proved)
     } else {

@@ -1,14 +1,17 @@
-//! Runs one item of a proof.
+//! Runs one item of a proof, and tells a listener.
 
-ghost use Rattle.std.specs.Prelude.{List, IfOk};
+ghost use Rattle.std.specs.Prelude.{◌<◌, ◌≤◌, suc, List, IfOk, length};
 ghost use Rattle.mm_lex.specs.Alphabet.{Name};
+ghost use Rattle.proof_code.specs.declared.item.Item.TheVariants.{Cite, Mark, Recall};
 ghost use Rattle.proof_code.specs.ItemNumbers.{item_of};
 ghost use Rattle.verify.specs.RunsItemByNumber.{AreEntriesIn, IsEntryIn, IsReady, MayCite, IsCitedView};
-ghost use Rattle.verify.specs.RunsItemByNumber.{AreNamed, AreNamedAndCachedIn, HasCitedIn, RunsItemIn};
-ghost use Rattle.verify.specs.ResultPlaces.{UnchangedUnlessDone};
+ghost use Rattle.verify.specs.RunsItemByNumber.{AreNamed, HasCitedIn, RunsItemIn};
+ghost use Rattle.verify.specs.ResultPlaces.{IsKept};
+ghost use Rattle.verify.specs.Walk.{IsHeard};
 
 use crate::cited::cited_view;
 use crate::label_table::LabelEntry;
+use crate::listener::Listener;
 use crate::results::Results;
 use entries::AssertionView;
 use frame::{FrameBuffers, Frames, Pairs};
@@ -49,7 +52,7 @@ fn cite_by_view(
     requires may { MayCite context.now position results.old.results }
     requires cited { IsCitedView context.now position cited.now }
     ensures effect { IfOk result (HasCitedIn context.now (LabelEntry.Assertion position) results.old results.new) }
-    ensures unchanged { IfOk result (λ ok. UnchangedUnlessDone ok results.old.results results.new.results) }
+    ensures kept { IfOk result (λ ok. IsKept ok results.old results.new) }
 {
     let count = cited.hypotheses.len();
     if count > results.len() {
@@ -79,64 +82,126 @@ fn cite(
 ) -> Result<bool, AllocError>
     requires may { MayCite context.now position buffers.old.results.results }
     ensures effect { IfOk result (HasCitedIn context.now (LabelEntry.Assertion position) buffers.old.results buffers.new.results) }
-    ensures unchanged { IfOk result (λ ok. UnchangedUnlessDone ok buffers.old.results.results buffers.new.results.results) }
+    ensures kept { IfOk result (λ ok. IsKept ok buffers.old.results buffers.new.results) }
 {
     let cited = cited_view(context.frames, position, &mut buffers.frame_buffers)?;
     cite_by_view(context, position, &cited, &mut buffers.results)
 }
 
-/// Cites a label by its meaning. Returns `false` if it cannot be cited.
+/// Cites a label by its meaning, and tells the listener. Returns `false` if it cannot be cited.
 ///
 /// Errors: an allocation fails.
 #[inline(always)]
-fn cite_entry(
+fn cite_entry<L: Listener>(
     context: &ProofContext<'_>,
     entry: LabelEntry,
     buffers: &mut Buffers,
+    listener: &mut L,
 ) -> Result<bool, AllocError>
     requires ready { IsReady context.now }
     requires named { AreNamed context.now.frames.now.names buffers.old.results.results }
     requires entry { (label : Name) × IsEntryIn context.now label entry }
     ensures effect { IfOk result (HasCitedIn context.now entry buffers.old.results buffers.new.results) }
-    ensures unchanged { IfOk result (λ ok. UnchangedUnlessDone ok buffers.old.results.results buffers.new.results.results) }
+    ensures kept { IfOk result (λ ok. IsKept ok buffers.old.results buffers.new.results) }
+    ensures heard { (label : Name) → IsEntryIn context.now label entry
+        → IfOk result (λ ok. IsHeard ok L.follows context.now.frames.now context.now.at (Cite label) buffers.old.results buffers.new.results listener.old listener.new) }
 {
     match entry {
-        LabelEntry::Hypothesis(i) => buffers.results.add(context.frames.expr(i)),
-        LabelEntry::Assertion(position) => cite(context, position, buffers),
+        LabelEntry::Hypothesis(i) => {
+            if !buffers.results.add(context.frames.expr(i))? {
+                return Ok(false);
+            }
+            listener.hypothesis(i, buffers.results.last_range())?;
+            Ok(true)
+        }
+        LabelEntry::Assertion(position) => {
+            let stack_len = buffers.results.len();
+            if !cite(context, position, buffers)? {
+                return Ok(false);
+            }
+            let count = stack_len - (buffers.results.len() - 1);
+            listener.assertion(position, count, buffers.results.last_range())?;
+            Ok(true)
+        }
         LabelEntry::Nothing => Ok(false),
     }
 }
 
-/// Runs one item, by its number, and returns whether it can be done. 0 is a mark; the numbers from
-/// 1 on cite the labels of the table, and those after them recall the results that were marked. If
-/// a citation pops no results, its result is cached for its label.
+/// Marks the last result, and tells the listener. Returns `false` if there is none.
 ///
 /// Errors: an allocation fails.
 #[inline(always)]
-pub fn step(
+fn mark<L: Listener>(
+    context: &ProofContext<'_>,
+    buffers: &mut Buffers,
+    listener: &mut L,
+) -> Result<bool, AllocError>
+    requires ready { IsReady context.now }
+    requires named { AreNamed context.now.frames.now.names buffers.old.results.results }
+    ensures effect { IfOk result (RunsItemIn context.now Mark buffers.old.results buffers.new.results) }
+    ensures kept { IfOk result (λ ok. IsKept ok buffers.old.results buffers.new.results) }
+    ensures heard { IfOk result (λ ok. IsHeard ok L.follows context.now.frames.now context.now.at Mark buffers.old.results buffers.new.results listener.old listener.new) }
+{
+    if !buffers.results.mark()? {
+        return Ok(false);
+    }
+    listener.mark()?;
+    Ok(true)
+}
+
+/// Recalls the marked result at an index, from 0, and tells the listener. Returns `false` if there
+/// is none or the proof would be too heavy.
+///
+/// Errors: an allocation fails.
+#[inline(always)]
+fn recall<L: Listener>(
+    context: &ProofContext<'_>,
+    index: usize,
+    buffers: &mut Buffers,
+    listener: &mut L,
+) -> Result<bool, AllocError>
+    requires ready { IsReady context.now }
+    requires named { AreNamed context.now.frames.now.names buffers.old.results.results }
+    ensures effect { IfOk result (RunsItemIn context.now (Recall (suc index)) buffers.old.results buffers.new.results) }
+    ensures kept { IfOk result (λ ok. IsKept ok buffers.old.results buffers.new.results) }
+    ensures heard { IfOk result (λ ok. IsHeard ok L.follows context.now.frames.now context.now.at (Recall (suc index)) buffers.old.results buffers.new.results listener.old listener.new) }
+{
+    if !buffers.results.recall(index)? {
+        return Ok(false);
+    }
+    listener.recall(index)?;
+    Ok(true)
+}
+
+/// Runs one item, by its number, tells the listener, and returns whether it can be done. 0 is a
+/// mark; the numbers from 1 on cite the labels of the table, and those after them recall the
+/// results that were marked.
+///
+/// Errors: an allocation fails.
+#[inline(always)]
+pub fn step<L: Listener>(
     context: &ProofContext<'_>,
     table: &[LabelEntry],
     number: u32,
     buffers: &mut Buffers,
+    listener: &mut L,
 ) -> Result<bool, AllocError>
     requires ready { IsReady context.now }
-    requires named_and_cached { AreNamedAndCachedIn context.now table.now buffers.old.results }
+    requires named { AreNamed context.now.frames.now.names buffers.old.results.results }
     requires entries { (labels : List Name) × AreEntriesIn context.now labels table.now }
     ensures effect { (labels : List Name) → AreEntriesIn context.now labels table.now
-        → IfOk result (RunsItemIn context.now table.now (item_of labels number) buffers.old.results buffers.new.results) }
-    ensures unchanged { IfOk result (λ ok. UnchangedUnlessDone ok buffers.old.results.results buffers.new.results.results) }
+        → IfOk result (RunsItemIn context.now (item_of labels number) buffers.old.results buffers.new.results) }
+    ensures kept { IfOk result (λ ok. IsKept ok buffers.old.results buffers.new.results) }
+    ensures heard { (labels : List Name) → AreEntriesIn context.now labels table.now
+        → IfOk result (λ ok. IsHeard ok L.follows context.now.frames.now context.now.at (item_of labels number) buffers.old.results buffers.new.results listener.old listener.new) }
 {
     if number == 0 {
-        return buffers.results.mark();
+        return mark(context, buffers, listener);
     }
     let index = number as usize - 1;
-    if let Some(done) = buffers.results.recall(index, table.len())? {
-        return Ok(done);
+    if index < table.len() {
+        cite_entry(context, table[index], buffers, listener)
+    } else {
+        recall(context, index - table.len(), buffers, listener)
     }
-    let stack_len = buffers.results.len();
-    let done = cite_entry(context, table[index], buffers)?;
-    if done && stack_len < buffers.results.len() {
-        buffers.results.cache_last(index);
-    }
-    Ok(done)
 }

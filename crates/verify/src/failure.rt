@@ -1,15 +1,19 @@
 //! The run over the items of a proof, up to the first that cannot be done.
 
-ghost use Rattle.std.specs.Prelude.{List, length, IfOk, IfSome, MatchOption};
+ghost use Rattle.std.specs.Prelude.{◌≡◌, List, take, IfOk, IfSome, MatchOption, Some};
+ghost use Rattle.frame.specs.AtPosition.{HasLegalProperties};
 ghost use Rattle.mm_lex.specs.Alphabet.{Name};
 ghost use Rattle.mm_read.specs.declared.stmt.Stmt.{Stmt as Statement};
 ghost use Rattle.proof_code.specs.ItemNumbers.{items_of};
-ghost use Rattle.verify.specs.RunsItemByNumber.{AreEntriesIn, IsReady, without_cached};
+ghost use Rattle.scope.specs.Active.{stmt_at};
+ghost use Rattle.verify.specs.RunsItemByNumber.{AreEntriesIn, IsReady};
 ghost use Rattle.verify.specs.Right.{IsProvable, IsRight};
-ghost use Rattle.verify.specs.Stops.{IsFirstFailure, StopsIn};
+ghost use Rattle.verify.specs.Stops.{HasHeardAll, IsFirstFailure, IsOutcome, StopsIn};
+ghost use Rattle.verify.specs.Walk.{walk, walk_start};
 
 use crate::citation::{Buffers, ProofContext, step};
 use crate::label_table::{LabelEntry, fill_table};
+use crate::listener::{Listener, Silent};
 use crate::results::Results;
 use frame::{FrameBuffers, Frames};
 use proof_code::Items;
@@ -18,44 +22,90 @@ use std::alloc::{AllocError, Global};
 /// Where the run over the items of a proof fails, and the results before it.
 #[derive(Drop)]
 pub enum Failure {
-    /// The item at this index, from 0, cannot be done, or it would make the proof too heavy. The
-    /// first `label_count` saved results are those cached for labels; those that were marked
-    /// follow.
-    Item {
-        item: usize,
-        label_count: usize,
-        results: Results,
-    },
+    /// The item at this index, from 0, cannot be done, or it would make the proof too heavy.
+    Item { item: usize, results: Results },
     /// All items were done, and the results are not the statement's expression alone.
-    End {
-        results: Results,
-    },
+    End { results: Results },
 }
 
-/// Runs the items with these numbers up to the first that cannot be done, and returns how many were
-/// done. The table has the meaning of each label.
+/// How the run over the items of a proof ends.
+#[derive(Drop)]
+pub enum Outcome {
+    /// The items are a right proof. These are the results: the statement's expression alone.
+    Right(Results),
+    /// The items are not a right proof.
+    Failed(Failure),
+}
+
+/// Runs the items with these numbers up to the first that cannot be done, tells the listener of
+/// each that was done, and returns how many were done. The table has the meaning of each label.
 ///
 /// Errors: an allocation fails, or the results would exceed the limit set by
 /// `Results::set_symbol_limit`.
 #[inline(always)]
-pub(crate) fn run_items(
+pub(crate) fn run_items<L: Listener>(
     context: &ProofContext<'_>,
     table: &[LabelEntry],
     numbers: &[u32],
     buffers: &mut Buffers,
+    listener: &mut L,
 ) -> Result<usize, AllocError>
     requires ready { IsReady context.now }
     requires entries { (labels : List Name) × AreEntriesIn context.now labels table.now }
     ensures stops { (labels : List Name) → AreEntriesIn context.now labels table.now
-        → IfOk result (λ done. StopsIn context.now (items_of labels numbers.now) done (without_cached (length table.now) buffers.new.results.results)) }
+        → IfOk result (λ done. StopsIn context.now (items_of labels numbers.now) done buffers.new.results.results) }
+    ensures heard { (labels : List Name) → AreEntriesIn context.now labels table.now → L.follows (walk_start context.now.frames.now context.now.at) listener.old
+        → IfOk result (λ done. L.follows (walk context.now.frames.now context.now.at (take done (items_of labels numbers.now)) buffers.new.results) listener.new) }
 {
-    buffers.results.start(table.len())?;
+    buffers.results.start();
     for (done, number) in numbers.iter().enumerate() {
-        if !step(context, table, *number, buffers)? {
+        if !step(context, table, *number, buffers, listener)? {
             return Ok(done);
         }
     }
     Ok(numbers.len())
+}
+
+/// Runs the items of a proof of the statement at that position, tells the listener of each that was
+/// done, and returns how the run ends.
+///
+/// Errors: an allocation fails, also in the listener. Cost: that of `check`, and of the listener.
+/// Source: Metamath, 4.2.6 and appendix B.
+pub fn run<L: Listener>(
+    alloc: Global,
+    frames: &Frames,
+    at: usize,
+    items: &Items,
+    listener: &mut L,
+) -> Result<Outcome, AllocError>
+    requires { (s : Statement) × (stmt_at frames.now.statements at ≡ Some s) }
+    ensures legal { HasLegalProperties frames.now.statements frames.now.names }
+    ensures outcome { IfOk result (IsOutcome frames.now.statements at frames.now.names items.now) }
+    ensures heard { L.follows (walk_start frames.now at) listener.old → IfOk result (λ outcome. HasHeardAll L.follows frames.now at items.now outcome listener.new) }
+{
+    let parts = items.parts();
+    let mut table = Vec::new(alloc);
+    fill_table(frames, at, parts.labels, &mut table)?;
+    let mut buffers = Buffers {
+        frame_buffers: FrameBuffers::new(alloc),
+        results: Results::new(alloc),
+    };
+    let pairs = frames.active_pairs(at);
+    let context = ProofContext { frames, at, pairs };
+    let done = run_items(&context, &table, parts.numbers, &mut buffers, listener)?;
+    let results = buffers.results;
+    let is_only = results.is_only(frames.expr(at));
+    if done < parts.numbers.len() {
+        return Ok(Outcome::Failed(Failure::Item {
+            item: done,
+            results,
+        }));
+    }
+    if is_only {
+        Ok(Outcome::Right(results))
+    } else {
+        Ok(Outcome::Failed(Failure::End { results }))
+    }
 }
 
 /// Returns where the run over the items fails as a proof of the `$p` at that position, or `None` if
@@ -72,28 +122,8 @@ pub fn first_failure(
     ensures right { IfOk result (λ found. MatchOption found (IsRight frames.now.statements at items.now) (λ _. ¬ IsRight frames.now.statements at items.now)) }
     ensures first { IfOk result (λ found. IfSome found (IsFirstFailure frames.now.statements at frames.now.names items.now)) }
 {
-    let parts = items.parts();
-    let mut table = Vec::new(alloc);
-    fill_table(frames, at, parts.labels, &mut table)?;
-    let mut buffers = Buffers {
-        frame_buffers: FrameBuffers::new(alloc),
-        results: Results::new(alloc),
-    };
-    let pairs = frames.active_pairs(at);
-    let context = ProofContext { frames, at, pairs };
-    let done = run_items(&context, &table, parts.numbers, &mut buffers)?;
-    let results = buffers.results;
-    let is_only = results.is_only(frames.expr(at));
-    if done < parts.numbers.len() {
-        return Ok(Some(Failure::Item {
-            item: done,
-            label_count: table.len(),
-            results,
-        }));
-    }
-    if is_only {
-        Ok(None)
-    } else {
-        Ok(Some(Failure::End { results }))
+    match run(alloc, frames, at, items, &mut Silent)? {
+        Outcome::Right(_) => Ok(None),
+        Outcome::Failed(failure) => Ok(Some(failure)),
     }
 }

@@ -6,9 +6,11 @@
 //! (the symbols of all that they conclude) within the limit; else it returns `Wrong`. `check` does
 //! so for the items themselves; `first_failure` returns where their run fails.
 //!
-//! Reading order: `answer`, `tree`; `results` (as ranges of one buffer), `label_table`,
+//! One run goes over the items (`failure::run_items`) and tells a `Listener` of each that was done.
+//!
+//! Reading order: `answer`, `tree`; `results` (as ranges of one buffer), `label_table`, `listener`,
 //! `cited`, `citation` (one item), `failure` (all items), `checker` (a whole proof); `plan`
-//! (the derivation); `laws`.
+//! (a listener that makes the derivation); `laws`.
 #![tactic(auto)]
 
 mod answer;
@@ -18,6 +20,7 @@ mod cited;
 mod failure;
 mod label_table;
 pub mod laws;
+mod listener;
 mod plan;
 mod results;
 mod tree;
@@ -25,7 +28,8 @@ mod tree;
 pub use answer::{Answer, TreeFault};
 pub use checker::{Checker, check};
 pub use cited::cited_view;
-pub use failure::{Failure, first_failure};
+pub use failure::{Failure, Outcome, first_failure, run};
+pub use listener::Listener;
 pub use plan::{MAX_DEPTH, MAX_NODES, derivation};
 pub use results::{Results, read_off};
 pub use tree::Tree;

@@ -1,28 +1,24 @@
 //! The derivation that the items of a proof spell.
 //!
-//! A plan of it is made first: numbered nodes, each after its children, and only once however often
-//! it is recalled. The plan is measured before the tree is made.
+//! A plan of it is made first, by listening to the run: numbered nodes, each after its children, and
+//! only once however often it is recalled. The plan is measured before the tree is made.
 
-ghost use Rattle.std.specs.Prelude.{◌≡◌, ℕ, ◌<◌, ◌≤◌, ◌↔◌, [], IsTrue, List, OnOk, IfOk, Some, length, map, slice_get, ◌⊎◌, MatchOption};
+ghost use Rattle.std.specs.Prelude.{◌≡◌, ◌<◌, ◌≤◌, ◌↔◌, [], IsTrue, List, OnOk, IfOk, MatchOption, Some, length, map, slice_get, ◌⊎◌};
 ghost use Rattle.frame.specs.AtPosition.{HasLabelsOnce};
-ghost use Rattle.mm_lex.specs.Alphabet.{Name};
 ghost use Rattle.mm_read.specs.declared.stmt.Stmt.{Stmt as Statement};
-ghost use Rattle.proof_code.specs.ItemNumbers.{item_of};
-ghost use Rattle.proof_code.specs.declared.item.Item.TheVariants.{Cite};
 ghost use Rattle.verify.specs.Derivations.{Derivation, derivation_of};
 ghost use Rattle.verify.specs.Extents.{extent_of};
-ghost use Rattle.verify.specs.Growth.{Grew, GrowsBy, Trees, trees, with_tree};
-ghost use Rattle.verify.specs.LabelTable.{AreEntries, IsEntry};
-ghost use Rattle.verify.specs.Plan.{AreOrdered, IsAfter, IsPlan, built, derive, pick, trees_of};
+ghost use Rattle.verify.specs.Plan.{AddsNode, AreOrdered, IsAfter, IsRightPlan, built, derive, pick};
 ghost use Rattle.verify.specs.Right.{Derives, IsProvable, IsRight, IsSmall, most_depth, most_nodes};
 
-use crate::answer::{Answer, TreeFault};
-use crate::checker::check;
-use crate::label_table::{LabelEntry, fill_table};
+use crate::answer::TreeFault;
+use crate::failure::{Outcome, run};
+use crate::listener::Listener;
 use crate::tree::Tree;
 use frame::Frames;
 use proof_code::Items;
 use std::alloc::{AllocError, Global};
+use subst::SymbolRange;
 
 /// The largest number of nodes of a derivation that is returned.
 pub const MAX_NODES: usize = 65_536;
@@ -48,89 +44,69 @@ pub struct TreePlan {
     pub stack: Vec<usize>,
     /// The numbers of the nodes that were marked.
     pub saved: Vec<usize>,
-    /// A buffer for the mandatory hypotheses of a cited assertion.
-    pub mandatory: Vec<u32>,
 }
 
-/// Appends a node, and pushes its number onto the stack.
-///
-/// Errors: an allocation fails.
-fn add(plan: &mut TreePlan, node: Node) -> Result<(), AllocError>
-    requires plan { IsPlan plan.old }
-    requires after { IsAfter (length plan.old.nodes.items) node }
-    ensures plan { OnOk result (IsPlan plan.new) }
-    ensures grew { OnOk result (trees_of plan.new ≡ with_tree (trees_of plan.old) (trees_of plan.old).stack (derive (built plan.old.nodes.items) node)) }
-{
-    let number = plan.nodes.len();
-    plan.nodes.push(node)?;
-    plan.stack.push(number)?;
-    Ok(())
-}
-
-/// Cites a label by its meaning. Returns `false` if it cannot be cited.
-///
-/// Errors: an allocation fails.
-fn cite(frames: &Frames, entry: LabelEntry, plan: &mut TreePlan) -> Result<bool, AllocError>
-    requires plan { IsPlan plan.old }
-    requires entry { (at : ℕ) × (label : Name) × IsEntry frames.now.statements at label entry }
-    ensures plan { OnOk result (IsPlan plan.new) }
-    ensures grew { (at : ℕ) → (label : Name) → HasLabelsOnce frames.now.statements → IsEntry frames.now.statements at label entry
-        → IfOk result (λ ok. Grew ok frames.now.statements at (trees_of plan.old) (Cite label) (trees_of plan.new)) }
-{
-    match entry {
-        LabelEntry::Hypothesis(position) => {
-            add(plan, Node::Hyp(position))?;
-            Ok(true)
+impl TreePlan {
+    /// Returns a plan without nodes.
+    fn new(alloc: Global) -> TreePlan
+        ensures { (result.nodes.items ≡ []) × (result.stack.items ≡ []) × (result.saved.items ≡ []) }
+    {
+        TreePlan {
+            nodes: Vec::new(alloc),
+            stack: Vec::new(alloc),
+            saved: Vec::new(alloc),
         }
-        LabelEntry::Assertion(position) => {
-            plan.mandatory.clear();
-            frames.mandatory(position, &mut plan.mandatory)?;
-            let count = plan.mandatory.len();
-            if count > plan.stack.len() {
-                return Ok(false);
-            }
-            let keep = plan.stack.len() - count;
-            let children = plan.stack.split_off(keep)?;
-            add(plan, Node::Apply(position, children))?;
-            Ok(true)
-        }
-        LabelEntry::Nothing => Ok(false),
+    }
+
+    /// Appends a node, and pushes its number onto the stack.
+    ///
+    /// Errors: an allocation fails.
+    fn add(&mut self, node: Node) -> Result<(), AllocError>
+        ensures { OnOk result (AddsNode self.old self.new node) }
+    {
+        let number = self.nodes.len();
+        self.nodes.push(node)?;
+        self.stack.push(number)?;
+        Ok(())
     }
 }
 
-/// Runs one item, by its number, and returns whether it can be done.
-///
-/// Errors: an allocation fails.
-pub fn grow(
-    frames: &Frames,
-    table: &[LabelEntry],
-    number: u32,
-    plan: &mut TreePlan,
-) -> Result<bool, AllocError>
-    requires plan { IsPlan plan.old }
-    requires entries { (at : ℕ) × (labels : List Name) × AreEntries frames.now.statements at labels table.now }
-    ensures plan { OnOk result (IsPlan plan.new) }
-    ensures grew { (at : ℕ) → (labels : List Name) → HasLabelsOnce frames.now.statements → AreEntries frames.now.statements at labels table.now
-        → IfOk result (λ ok. Grew ok frames.now.statements at (trees_of plan.old) (item_of labels number) (trees_of plan.new)) }
-{
-    if number == 0 {
-        let Some(&last) = plan.stack.last() else {
-            return Ok(false);
-        };
-        plan.saved.push(last)?;
-        return Ok(true);
+impl Listener for TreePlan {
+    ghost use Rattle.verify.specs.Plan.{IsPlanOf};
+
+    ghost follows = { IsPlanOf };
+
+    fn hypothesis(&mut self, position: usize, _range: SymbolRange) -> Result<(), AllocError> {
+        self.add(Node::Hyp(position))
     }
-    let place = number as usize - 1;
-    if place < table.len() {
-        return cite(frames, table[place], plan);
+
+    fn assertion(
+        &mut self,
+        position: usize,
+        count: usize,
+        _range: SymbolRange,
+    ) -> Result<(), AllocError> {
+        let keep = self.stack.len().saturating_sub(count);
+        let children = self.stack.split_off(keep)?;
+        self.add(Node::Apply(position, children))
     }
-    let index = place - table.len();
-    if index >= plan.saved.len() {
-        return Ok(false);
+
+    fn mark(&mut self) -> Result<(), AllocError> {
+        let len = self.stack.len();
+        if len > 0 {
+            let number = self.stack[len - 1];
+            self.saved.push(number)?;
+        }
+        Ok(())
     }
-    let saved = plan.saved[index];
-    plan.stack.push(saved)?;
-    Ok(true)
+
+    fn recall(&mut self, index: usize) -> Result<(), AllocError> {
+        if index < self.saved.len() {
+            let number = self.saved[index];
+            self.stack.push(number)?;
+        }
+        Ok(())
+    }
 }
 
 /// The number of nodes of a derivation and its depth, each counted no further than one above its
@@ -197,8 +173,7 @@ pub fn is_small(extent: Extent) -> bool
 /// Errors: `Wrong` if the items are not a right proof; `TooLarge` if the derivation has more than
 /// 65,536 nodes or a depth above 1,024 (it is measured before it is made); `Memory` if an
 /// allocation fails, even if one of the others applies.
-/// Cost: a check, the mandatory hypotheses of the assertion of each citation, and the tree. Source:
-/// Metamath, 4.2.6 and appendix B.
+/// Cost: a check, and the tree. Source: Metamath, 4.2.6 and appendix B.
 pub fn derivation(
     alloc: Global,
     frames: &Frames,
@@ -214,10 +189,9 @@ pub fn derivation(
         → (result ≡ Err TreeFault.TooLarge) ⊎ (result ≡ Err TreeFault.Memory) }
     ensures only_large { result ≡ Err TreeFault.TooLarge → (t : Derivation) × Derives frames.now.statements at items.now t × (¬ IsSmall t) }
 {
-    let Answer::Proved = check(alloc, frames, at, items)? else {
+    let Some(plan) = plan_of(alloc, frames, at, items)? else {
         return Err(TreeFault::Wrong);
     };
-    let plan = plan_of(alloc, frames, at, items)?;
     let root = plan.stack[0];
     let extents = measure(alloc, &plan.nodes)?;
     if !is_small(extents[root]) {
@@ -226,28 +200,22 @@ pub fn derivation(
     Ok(expand(alloc, &plan.nodes, root)?)
 }
 
-/// Returns the plan of the derivation that the items of a right proof spell.
-fn plan_of(alloc: Global, frames: &Frames, at: usize, items: &Items) -> Result<TreePlan, AllocError>
-    requires { IsRight frames.now.statements at items.now }
+/// Returns the plan of the derivation that the items spell, or `None` if they are not a right proof.
+fn plan_of(
+    alloc: Global,
+    frames: &Frames,
+    at: usize,
+    items: &Items,
+) -> Result<Option<TreePlan>, AllocError>
+    requires { (s : Statement) × IsProvable frames.now.statements at s }
     ensures once { HasLabelsOnce frames.now.statements }
-    ensures plan { IfOk result IsPlan }
-    ensures grown { IfOk result (λ plan. GrowsBy frames.now.statements at (trees [] []) items.now (trees_of plan)) }
+    ensures planned { IfOk result (λ found. MatchOption found (¬ IsRight frames.now.statements at items.now) (IsRightPlan frames.now.statements at items.now)) }
 {
-    let parts = items.parts();
-    let mut table = Vec::new(alloc);
-    fill_table(frames, at, parts.labels, &mut table)?;
-    let mut plan = TreePlan {
-        nodes: Vec::new(alloc),
-        stack: Vec::new(alloc),
-        saved: Vec::new(alloc),
-        mandatory: Vec::new(alloc),
-    };
-    for number in parts.numbers {
-        if !grow(frames, &table, *number, &mut plan)? {
-            unreachable!();
-        }
+    let mut plan = TreePlan::new(alloc);
+    match run(alloc, frames, at, items, &mut plan)? {
+        Outcome::Right(_) => Ok(Some(plan)),
+        Outcome::Failed(_) => Ok(None),
     }
-    Ok(plan)
 }
 
 /// Returns the derivation with that number as a tree: a node that occurs in it several times is

@@ -1,6 +1,6 @@
 //! The results of a proof so far, as ranges of one buffer.
 
-ghost use Rattle.std.specs.Prelude.{take, List, ℕ, ◌≡◌, ◌<◌, ◌≤◌, ◌↔◌, ◌∷◌, ◌++◌, [], length, slice_get, replicate, nat_eq, ◌==◌, Some, is_some, if◌then◌else◌, IfOk, IfSome, OnOk, OnErr, IsTrue};
+ghost use Rattle.std.specs.Prelude.{take, List, ℕ, suc, ◌≡◌, ◌<◌, ◌≤◌, ◌↔◌, ◌∷◌, ◌++◌, [], length, slice_get, nat_eq, ◌==◌, Some, is_some, if◌then◌else◌, IfOk, IfSome, OnOk, OnErr, IsTrue};
 ghost use Rattle.frame.specs.AtPosition.{HasLegalProperties};
 ghost use Rattle.frame.specs.Below.{AllBelow};
 ghost use Rattle.frame.specs.Substitution.{code_apply};
@@ -10,8 +10,9 @@ ghost use Rattle.subst.specs.Images.{AreOver, are_numbered_groups_disjoint};
 ghost use Rattle.subst.specs.SymbolRanges.{AreInside, AreWithin};
 ghost use Rattle.verify.specs.HypothesisResults.{AreDifferent, ArePresent, HasSeenEssentials, LastResultsMatch, Reads};
 ghost use Rattle.verify.specs.ReadPlaces.{BeginsWith, ReadsAll, tail_of};
-ghost use Rattle.verify.specs.ResultPlaces.{Adds, RecallsAt, CachesLast, Marks, UnchangedUnlessDone, below, top};
+ghost use Rattle.verify.specs.ResultPlaces.{Adds, IsKept, Marks, Recalls, below, top};
 ghost use Rattle.verify.specs.Right.{weight_limit};
+ghost use Rattle.verify.specs.Walk.{IsLastRange};
 
 use entries::{Groups, Hypotheses, Hypothesis};
 use frame::{Frames, Pairs};
@@ -31,9 +32,7 @@ pub struct Results {
     images: ImageRanges,
     /// The results on the stack, the last on top.
     stack: Vec<SymbolRange>,
-    /// First a range for each label: its result if it was cited and pops no results, else an empty
-    /// range. Such a result is written once, at the first citation of its label. Then the results
-    /// that were marked.
+    /// The results that were marked.
     saved: Vec<SymbolRange>,
     /// The number of symbols of all results that were pushed so far, also of those that were
     /// popped; a recall pushes one.
@@ -78,21 +77,16 @@ impl Results {
         self.symbols_limit = symbols_limit;
     }
 
-    /// Begins a proof: removes all results and images, and adds an empty saved result for each of
-    /// `label_count` labels. Keeps the memory.
-    ///
-    /// Errors: an allocation fails. Cost: the number of labels.
-    pub fn start(&mut self, label_count: usize) -> Result<(), AllocError>
-        ensures { OnOk result (self.new.results ≡ record { stack = []; saved = replicate label_count []; weight = 0 }) }
+    /// Begins a proof: removes all results and images. Keeps the memory.
+    pub fn start(&mut self)
+        ensures results { self.new.results ≡ record { stack = []; saved = []; weight = 0 } }
+        ensures symbols { self.new.symbols ≡ [] }
     {
         self.images.clear();
         self.symbols.truncate(0);
         self.stack.clear();
         self.saved.clear();
         self.weight = 0;
-        self.saved
-            .resize(label_count, SymbolRange { start: 0, end: 0 })?;
-        Ok(())
     }
 
     /// Pushes an expression as a result, or returns `false` if the proof would be too heavy.
@@ -102,7 +96,7 @@ impl Results {
     #[inline(never)]
     pub fn add(&mut self, expr: &[u32]) -> Result<bool, AllocError>
         ensures adds { IfOk result (λ ok. Adds ok self.old.results self.new.results self.old.results.stack expr.now) }
-        ensures unchanged { IfOk result (λ ok. UnchangedUnlessDone ok self.old.results self.new.results) }
+        ensures kept { IfOk result (λ ok. IsKept ok self.old self.new) }
     {
         if expr.len() > SYMBOLS_LIMIT - self.weight {
             return Ok(false);
@@ -118,23 +112,13 @@ impl Results {
         Ok(true)
     }
 
-    /// Saves the last result for the label with that number, from 0.
-    pub fn cache_last(&mut self, label: usize)
-        requires { label < length self.old.results.saved }
-        ensures { CachesLast self.old.results self.new.results label }
-    {
-        if let Some(&place) = self.stack.last() {
-            self.saved[label] = place;
-        }
-    }
-
     /// Marks the last result, or returns `false` if there is none.
     ///
     /// Errors: an allocation fails.
     #[inline(always)]
     pub fn mark(&mut self) -> Result<bool, AllocError>
         ensures marks { IfOk result (λ ok. Marks ok self.old.results self.new.results) }
-        ensures unchanged { IfOk result (λ ok. UnchangedUnlessDone ok self.old.results self.new.results) }
+        ensures kept { IfOk result (λ ok. IsKept ok self.old self.new) }
     {
         let Some(&place) = self.stack.last() else {
             return Ok(false);
@@ -143,35 +127,26 @@ impl Results {
         Ok(true)
     }
 
-    /// Pushes the result that is saved at that index, or returns `false` if there is none or the
-    /// proof would be too heavy. Returns `None` if the index is one of the first `label_count`, and
-    /// no result with symbols is saved there.
+    /// Pushes the marked result at that index, from 0, or returns `false` if there is none or the
+    /// proof would be too heavy.
     ///
     /// Errors: an allocation fails. Cost: a constant.
     #[inline(always)]
-    pub fn recall(&mut self, index: usize, label_count: usize) -> Result<Option<bool>, AllocError>
-        requires { label_count ≤ length self.old.results.saved }
-        ensures finds { IfOk result (λ done. RecallsAt done label_count self.old.results self.new.results index) }
-        ensures unchanged { IfOk result (λ done. IfSome done (λ ok. UnchangedUnlessDone ok self.old.results self.new.results)) }
+    pub fn recall(&mut self, index: usize) -> Result<bool, AllocError>
+        ensures recalls { IfOk result (λ ok. Recalls ok self.old.results self.new.results (suc index)) }
+        ensures kept { IfOk result (λ ok. IsKept ok self.old self.new) }
     {
         if index >= self.saved.len() {
-            return Ok(Some(false));
+            return Ok(false);
         }
         let place = self.saved[index];
         let len = (place.end - place.start) as usize;
-        if len == 0 {
-            if index < label_count {
-                return Ok(None);
-            }
-            self.stack.push(place)?;
-            return Ok(Some(true));
-        }
         if len > SYMBOLS_LIMIT - self.weight {
-            return Ok(Some(false));
+            return Ok(false);
         }
         self.stack.push(place)?;
         self.weight += len;
-        Ok(Some(true))
+        Ok(true)
     }
 
     /// Reads the images of the variables of the `$f` from the last results, one for each
@@ -189,6 +164,7 @@ impl Results {
         requires count { length hypotheses.now ≤ length self.old.results.stack }
         requires different { AreDifferent hypotheses.now }
         ensures same { self.new.results ≡ self.old.results }
+        ensures symbols { self.new.symbols ≡ self.old.symbols }
         ensures read { IfOk result (λ r. Reads (is_some r) typecodes.now hypotheses.now (top (length hypotheses.now) self.old.results.stack) self.new.images) }
         ensures essentials { IfOk result (λ r. IfSome r (HasSeenEssentials hypotheses.now)) }
     {
@@ -260,7 +236,7 @@ impl Results {
     pub fn apply(&mut self, count: usize, expr: &[u32]) -> Result<bool, AllocError>
         requires { count ≤ length self.old.results.stack }
         ensures adds { IfOk result (λ ok. Adds ok self.old.results self.new.results (below count self.old.results.stack) (code_apply self.old.images expr.now)) }
-        ensures unchanged { IfOk result (λ ok. UnchangedUnlessDone ok self.old.results self.new.results) }
+        ensures kept { IfOk result (λ ok. IsKept ok self.old self.new) }
     {
         let keep = self.stack.len() - count;
         let start = self.symbols.len();
@@ -316,7 +292,23 @@ impl Results {
         symbols_at(self.symbols.as_slice(), place)
     }
 
-    /// Returns the number of saved results: one for each label, and those that were marked.
+    /// Returns the range of the last result in the buffer of symbols.
+    #[inline(always)]
+    pub fn last_range(&self) -> SymbolRange
+        requires { 0 < length self.now.results.stack }
+        ensures { IsLastRange self.now result }
+    {
+        self.stack[self.stack.len() - 1]
+    }
+
+    /// Returns the buffer of symbols.
+    pub fn into_symbols(self) -> Buffer
+        ensures { result ≡ self.symbols }
+    {
+        self.symbols
+    }
+
+    /// Returns the number of results that were marked.
     pub fn saved_len(&self) -> usize
         ensures { result ≡ length self.now.results.saved }
     {

@@ -1,4 +1,4 @@
-use Rattle.explain.proofs.Words.{◌≡◌, ◌∙◌, ◌++◌, ◌-◌, ap, sym, subst, refl, length, drop, take, map, arith, decode, expr_of, AllBelow, all-drop, map-append, named_without_cached, images_of, IsResultsFault, codes, named_expressions}
+use Rattle.explain.proofs.Words.{◌≡◌, ◌∙◌, ◌++◌, ◌-◌, ap, sym, subst, refl, length, drop, take, map, arith, decode, expr_of, AllBelow, all-drop, map-append, named_results, images_of, IsResultsFault, codes, named_expressions}
 use Rattle.frame.specs.Substitution.{apply as applied}
 use Rattle.verify.proofs.Words.{length-drop, length-map, take-append-drop}
 use Rattle.explain.proofs.NamedLemmas.{named-codes}
@@ -19,7 +19,7 @@ results_fault-requires-clause-count c s e =
     omega (arith, all, few, copied, same, cut, required)
 
 pub returns-in-Some : goal.returns-in-Some
-returns-in-Some c labels s e =
+returns-in-Some c s e =
     let S = c.args.frames.now.statements in let names = c.args.frames.now.names in let stack = c.args.results.now.results.stack in
     let base = c.len-present.result - length c.args.mandatory.now in
     let has = assertion_is S c.args.cited_at c.requires.assertion.0 s c.requires.assertion.1 e in
@@ -29,12 +29,12 @@ returns-in-Some c labels s e =
     ap (map (decode names)) (sym (take-append-drop base stack)) ∙ map-append (decode names) (take base stack) (drop base stack) in
     let all = c.len-present.ensures in let few = c.if-present-required.false in
     let same = length-map (drop base stack) (decode names) in let cut = length-drop base stack in let required = ap length (c.requires.mandatory s e) in
-    wrong_fails S names c.args.at c.args.cited_at s (named_without_cached c.args.frames.now labels c.args.results.now) (map (decode names) (take base stack)) (map (decode names) (drop base stack)) c.in-Some.fault
+    wrong_fails S names c.args.at c.args.cited_at s (named_results c.args.frames.now c.args.results.now) (map (decode names) (take base stack)) (map (decode names) (drop base stack)) c.in-Some.fault
     whole (omega (arith, all, few, same, cut, required)) c.requires.earlier has
     (subst (λ rs. IsResultsFault S names c.args.at c.args.cited_at s rs c.in-Some.fault) by_names (rw c.in-Some.is at (c.in_ok-fault.ensures s e)))
 
 pub returns : goal.returns
-returns c labels s e =
+returns c s e =
     let S = c.args.frames.now.statements in let names = c.args.frames.now.names in let stack = c.args.results.now.results.stack in
     let base = c.len-present.result - length c.args.mandatory.now in
     let has = assertion_is S c.args.cited_at c.requires.assertion.0 s c.requires.assertion.1 e in

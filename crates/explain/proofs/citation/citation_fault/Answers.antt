@@ -3,7 +3,7 @@ use Rattle.explain.proofs.KeptRunLemmas.{hypothesis_is}
 use Rattle.explain.proofs.citation.citation_fault.Goals as goal
 
 pub returns-in-Hypothesis : goal.returns-in-Hypothesis
-returns-in-Hypothesis c labels s e =
+returns-in-Hypothesis c s e =
     let S = c.args.frames.now.statements in let names = c.args.frames.now.names in let known = c.in-Hypothesis.ensures in
     let is = hypothesis_is S names c.args.at c.args.statement known.0 s c.in-Hypothesis.field-0.now known.1 known.2 e in
     record {

@@ -1,6 +1,7 @@
 use Rattle.verify.proofs.Words.{◌≡◌, ℕ, ◌<◌, ◌↔◌, Bool, true, false, is_some, IsTrue, List, length, map, arith, sym, ap, ◌∙◌, subst, IfOk-weaker, Name, Database, AreDistinct, decode, AllBelow, are_groups_disjoint, CodeImages, images_of_names, AreOver, Hypothesis, Reads, HypothesesMatch, Results, below, top, Adds}
 use Rattle.verify.proofs.RequiredHypotheses.{required-lengths, required-different, required-standing}
 use Rattle.verify.proofs.CitationLemmas.{over-read, has-cited, not-cited}
+use Rattle.verify.proofs.ResultPlaceLemmas.{kept-as}
 use Rattle.verify.proofs.citation.cite_by_view.Goals as goal
 
 -- a fact about one flag holds of a flag that is equal to it
@@ -66,3 +67,6 @@ are_disjoint-requires-clause-below c = subst (λ ns. AllBelow (length ns) c.args
 
 pub are_disjoint-requires-clause-distinct : goal.are_disjoint-requires-clause-distinct
 are_disjoint-requires-clause-distinct c = subst AreDistinct (sym c.requires.may.ready.names) c.requires.may.ready.legal.distinct
+
+pub returns-clause-kept : goal.returns-clause-kept
+returns-clause-kept c = IfOk-weaker c.apply.result _ _ (λ ok. kept-as ok _ _ _ c.in_ok-has_essentials.ensures.same c.in_ok-has_essentials.ensures.symbols) (rw c.are_disjoint.ensures.same at c.apply.ensures.kept)

@@ -1,57 +1,13 @@
-use Rattle.verify.proofs.Words.{◌≡◌, ap, length, refl, arith, subst, without_cached, stands-within, StopsAt}
-use Rattle.verify.proofs.StopLemmas.{stopped, count-items, stops-wrong, stops-right, stops-other, stops-named}
 use Rattle.verify.proofs.failure.first_failure.Goals as goal
 
-pub active_pairs-pairs-requires : goal.active_pairs-pairs-requires
-active_pairs-pairs-requires c = stands-within c.args.frames.now.statements c.args.at c.requires.0 c.requires.1.stands
-
-pub expr-requires : goal.expr-requires
-expr-requires c = stands-within c.args.frames.now.statements c.args.at c.requires.0 c.requires.1.stands
-
-pub returns-then-done-parts-clause-right : goal.returns-then-done-parts-clause-right
-returns-then-done-parts-clause-right c =
-    let S = c.args.frames.now.statements in let names = c.args.frames.now.names in let at = c.args.at in let items = c.args.items.now in
-    let labels = c.parts-parts.result.labels.now in let numbers = c.parts-parts.result.numbers.now in let st = c.run_items.new.buffers.results.results in
-    let n = length c.fill_table.new.table.items in let done = c.in_ok-done.done in let count = count-items labels numbers items c.parts-parts.ensures in
-    let stops : StopsAt S at names items done (without_cached n st) = stopped S names at labels numbers items c.fill_table.new.table.items c.deref.result.now n done st c.parts-parts.ensures c.deref.ensures.value refl c.in_ok-fill_table.ensures.entries c.in_ok-done.ensures.stops in
-    stops-wrong S names at c.active_pairs-pairs.ensures.legal items done (without_cached n st) c.requires.0 c.requires.1.stands stops (let less = c.if-done-parts.true in omega (arith, less, count))
-
-pub returns-then-done-parts-clause-first : goal.returns-then-done-parts-clause-first
-returns-then-done-parts-clause-first c =
-    let S = c.args.frames.now.statements in let names = c.args.frames.now.names in let at = c.args.at in let items = c.args.items.now in
-    let labels = c.parts-parts.result.labels.now in let numbers = c.parts-parts.result.numbers.now in let st = c.run_items.new.buffers.results.results in
-    let n = c.len.result in let done = c.in_ok-done.done in let count = count-items labels numbers items c.parts-parts.ensures in
-    let stops : StopsAt S at names items done (without_cached n st) = stopped S names at labels numbers items c.fill_table.new.table.items c.deref.result.now n done st c.parts-parts.ensures c.deref.ensures.value (let a = c.len.ensures in let b = c.deref.ensures.len in let d = ap length c.deref.ensures.value in omega (arith, a, b, d)) c.in_ok-fill_table.ensures.entries c.in_ok-done.ensures.stops in
-    (let less = c.if-done-parts.true in omega (arith, less, count), record { stops = stops; light = c.is_only-is_only.ensures.light })
-
-pub returns-then-is_only-clause-right : goal.returns-then-is_only-clause-right
-returns-then-is_only-clause-right c =
-    let S = c.args.frames.now.statements in let names = c.args.frames.now.names in let at = c.args.at in let items = c.args.items.now in
-    let labels = c.parts-parts.result.labels.now in let numbers = c.parts-parts.result.numbers.now in let st = c.run_items.new.buffers.results.results in
-    let n = length c.fill_table.new.table.items in let done = c.in_ok-done.done in let count = count-items labels numbers items c.parts-parts.ensures in
-    let stops : StopsAt S at names items done (without_cached n st) = stopped S names at labels numbers items c.fill_table.new.table.items c.deref.result.now n done st c.parts-parts.ensures c.deref.ensures.value refl c.in_ok-fill_table.ensures.entries c.in_ok-done.ensures.stops in
-    stops-right S names at c.active_pairs-pairs.ensures.legal items done (without_cached n st) c.requires.0 c.requires.1.stands stops c.expr.result.now (let all = c.if-done-parts.false in omega (arith, all, count))
-    (c.expr.ensures.same c.requires.0 c.requires.1.stands) (c.is_only-is_only.ensures.only.0 c.if-is_only.true) c.is_only-is_only.ensures.light
+pub returns-in-Right-clause-right : goal.returns-in-Right-clause-right
+returns-in-Right-clause-right c = (rw c.in-Right.is at c.in_ok-run.ensures.outcome).0
 
 pub returns-clause-right : goal.returns-clause-right
-returns-clause-right c =
-    let S = c.args.frames.now.statements in let names = c.args.frames.now.names in let at = c.args.at in let items = c.args.items.now in
-    let labels = c.parts-parts.result.labels.now in let numbers = c.parts-parts.result.numbers.now in let st = c.run_items.new.buffers.results.results in
-    let n = length c.fill_table.new.table.items in let done = c.in_ok-done.done in let count = count-items labels numbers items c.parts-parts.ensures in
-    let stops : StopsAt S at names items done (without_cached n st) = stopped S names at labels numbers items c.fill_table.new.table.items c.deref.result.now n done st c.parts-parts.ensures c.deref.ensures.value refl c.in_ok-fill_table.ensures.entries c.in_ok-done.ensures.stops in
-    stops-other S names at c.active_pairs-pairs.ensures.legal items done (without_cached n st) c.requires.0 c.requires.1.stands stops c.expr.result.now (let all = c.if-done-parts.false in omega (arith, all, count))
-    (c.expr.ensures.same c.requires.0 c.requires.1.stands) c.expr.ensures.codes (λ one. let e = c.is_only-is_only.ensures.only.1 one in let f = c.if-is_only.false in cc)
+returns-clause-right c = (rw c.in-Failed.is at c.in_ok-run.ensures.outcome).0
 
 pub returns-clause-first : goal.returns-clause-first
-returns-clause-first c =
-    let S = c.args.frames.now.statements in let names = c.args.frames.now.names in let at = c.args.at in let items = c.args.items.now in
-    let labels = c.parts-parts.result.labels.now in let numbers = c.parts-parts.result.numbers.now in let st = c.run_items.new.buffers.results.results in
-    let n = length c.fill_table.new.table.items in let done = c.in_ok-done.done in let count = count-items labels numbers items c.parts-parts.ensures in
-    let stops : StopsAt S at names items done (without_cached n st) = stopped S names at labels numbers items c.fill_table.new.table.items c.deref.result.now n done st c.parts-parts.ensures c.deref.ensures.value refl c.in_ok-fill_table.ensures.entries c.in_ok-done.ensures.stops in
-    let whole : done ≡ length items = (let all = c.if-done-parts.false in let within = stops.within in omega (arith, all, within, count)) in (
-      n,
-      record { stops = subst (λ k. StopsAt S at names items k (without_cached n st)) whole stops; light = c.is_only-is_only.ensures.light },
-      λ s stands one. stops-other S names at c.active_pairs-pairs.ensures.legal items done (without_cached n st) c.requires.0 c.requires.1.stands stops c.expr.result.now (let all = c.if-done-parts.false in omega (arith, all, count))
-          (c.expr.ensures.same c.requires.0 c.requires.1.stands) c.expr.ensures.codes (λ one. let e = c.is_only-is_only.ensures.only.1 one in let f = c.if-is_only.false in cc)
-          (stops-named S names at c.active_pairs-pairs.ensures.legal items done (without_cached n st) s stands stops (let all = c.if-done-parts.false in omega (arith, all, count)) c.is_only-is_only.ensures.light one),
-    )
+returns-clause-first c = (rw c.in-Failed.is at c.in_ok-run.ensures.outcome).1
+
+pub run-requires : goal.run-requires
+run-requires c = (c.requires.0, c.requires.1.stands)

@@ -1,11 +1,13 @@
-use Rattle.verify.proofs.Words.{◌≡◌, List, length, map, take, Name, HasLegalProperties, item_of, without_cached, AreNamedAndCached, AreEntries}
+use Rattle.verify.proofs.Words.{List, map, take, Name, HasLegalProperties, item_of, AreNamed, AreEntries, walk, walk_start}
 use Rattle.verify.proofs.StepLemmas.{Reached}
 use Rattle.verify.proofs.failure.run_items.Given as goal
 
--- the results are those of a run over the items before the next one
+-- the results are those of a run over the items before the next one, and the listener follows it
 abbrev pub invariant-loop-done : goal.invariant-loop-done
-invariant-loop-done l =
+invariant-loop-done g l =
     (legal : HasLegalProperties l.context.frames.now.statements l.context.frames.now.names)
-    × AreNamedAndCached l.context.frames.now.statements l.context.at l.context.frames.now.names l.table l.buffers.results.results
+    × AreNamed l.context.frames.now.names l.buffers.results.results
     × ((labels : List Name) → AreEntries l.context.frames.now.statements l.context.at labels l.table
-    → Reached l.context.frames.now.statements l.context.frames.now.names l.context.at legal (map (item_of labels) (take l.done l.numbers)) (without_cached (length l.table) l.buffers.results.results))
+    → Reached l.context.frames.now.statements l.context.frames.now.names l.context.at legal (map (item_of labels) (take l.done l.numbers)) l.buffers.results.results)
+    × ((labels : List Name) → AreEntries l.context.frames.now.statements l.context.at labels l.table → g.L.Listener.follows (walk_start l.context.frames.now l.context.at) l.initial.listener
+    → g.L.Listener.follows (walk l.context.frames.now l.context.at (map (item_of labels) (take l.done l.numbers)) l.buffers.results) l.listener)

@@ -17,3 +17,6 @@ pub returns-clause-adds : goal.returns-clause-adds
 returns-clause-adds c =
     rw (← c.self.view_is) (added-seen c.self.inside.symbols c.args.expr.now _ c.self.inside.stack.items c.self.inside.stack.items c.self.inside.saved.items _ c.self.inside.weight _ c.range_between-place.result
     c.self.invariant.saved_within c.self.invariant.stack_within c.in_ok-extend.ensures.added (c.range_between-place.ensures.0 ∙ c.len-start.ensures.len) (c.range_between-place.ensures.1 ∙ c.len.ensures.len) c.in_ok-push.ensures.items refl)
+
+pub returns-clause-kept : goal.returns-clause-kept
+returns-clause-kept c = rw (← c.self.view_is) (c.args.expr.now, c.in_ok-extend.ensures.added)

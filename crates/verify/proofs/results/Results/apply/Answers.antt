@@ -37,3 +37,6 @@ returns-clause-adds c =
     rw (← c.self.view_is) (apply-seen c.self.inside.symbols _ _ c.self.inside.images c.self.inside.stack.items c.self.inside.saved.items _ c.self.inside.weight _ (c.len.result - c.args.count) c.args.count c.range_between-place.result c.self.invariant
     (omega (arith, c.len.ensures)) g.0 (c.range_between-place.ensures.0 ∙ c.len-start.ensures.len) (c.range_between-place.ensures.1 ∙ c.len-2.ensures.len)
     c.in_ok-truncate_and_push.ensures.ok (ap (λ n. c.self.inside.weight + n) more))
+
+pub returns-clause-kept : goal.returns-clause-kept
+returns-clause-kept c = rw (← c.self.view_is) (_, (appended _ _ _ _ _ c.if-not-branch.false c.in_ok-add_applied.ensures.ok).0)
