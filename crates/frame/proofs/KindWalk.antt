@@ -45,9 +45,6 @@ pub record IsChain (kind : Stmt → Bool) (last_of_kind : LastActive → ℕ) : 
 pub disjoint_chain : IsChain is_disj (λ l. l.disjoint)
 disjoint_chain = record { no_close = refl; tells = λ S. refl }
 
-pub variable_chain : IsChain is_var (λ l. l.variable)
-variable_chain = record { no_close = refl; tells = λ S. refl }
-
 pub essential_chain : IsChain is_essential (λ l. l.essential)
 essential_chain = record { no_close = refl; tells = λ S. refl }
 

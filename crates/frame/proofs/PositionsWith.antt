@@ -41,14 +41,6 @@ positions_with-front kind es c n m S le =
 
 -- ---- the position to which a `$}` goes back
 
-pub opening-some : (b : ℕ) → 1 ≤ opening b
-opening-some zero = omega arith
-opening-some (suc b) = omega arith
-
-pub opening-low : (b : ℕ) → opening b ≤ b + 1
-opening-low zero = omega arith
-opening-low (suc b) = omega arith
-
 pub opening-back : (b : ℕ) → opening b - 1 ≡ b - 1
 opening-back zero = refl
 opening-back (suc b) = refl

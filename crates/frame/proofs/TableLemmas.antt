@@ -1,6 +1,6 @@
 -- The tables of the `$d` and of the `$v`: while the next statement extends them, after it, and after
 -- they are cut.
-use Rattle.frame.proofs.Words.{◌≡◌, ◌∙◌, ap, sym, subst, arith, refl, inl, inr, ℕ, zero, suc, ◌+◌, ◌-◌, ◌<◌, ◌≤◌, ◌⊎◌, Bool, true, false, cond, nat_eq, nat_le, List, [], ◌∷◌, ◌++◌, length, map_push, take, take_all, take-append-le, take-map, length-append, length-map, length-take-le, slice_get, Some, get-last, get-more, get-push, list_any, true≢false, Result, Ok, Err, OnOk, OnErr, leb-true, Stmt, Database, Entry, Kind, Disj, LastActive, is_close, actives, stmt_by, shapes_of, option_symbols, has_code, positions_with, kind_test, last_by_kind, opening, KeepsUntil, Mention, AreKeptUntil, AreSame, AreUntil, AreWith, IsUntil, kept_until, mentions_of, positions_of, mentions-kept, until-kept, until-later, AreGrown, IsGrown, IsLastActive, IsListOf, IsMentionedAt, IsTableOf, IsUpTo, active_with, is_entry_of}
+use Rattle.frame.proofs.Words.{◌≡◌, ◌∙◌, ap, sym, subst, arith, refl, inl, inr, ℕ, zero, suc, ◌+◌, ◌-◌, ◌<◌, ◌≤◌, ◌⊎◌, Bool, true, false, cond, nat_eq, nat_le, List, [], ◌∷◌, ◌++◌, length, map_push, take, take_all, take-append-le, take-map, length-append, length-map, length-take-le, slice_get, Some, get-last, get-more, get-push, list_any, true≢false, Result, Ok, Err, OnOk, OnErr, leb-true, Stmt, Database, Entry, Kind, Disj, LastActive, is_close, actives, stmt_by, shapes_of, option_symbols, has_code, positions_with, kind_test, last_by_kind, opening, KeepsUntil, Mention, AreKeptUntil, AreSame, AreUntil, AreWith, IsUntil, kept_until, mentions_of, positions_of, mentions-kept, until-kept, until-later, until-more, AreGrown, IsGrown, IsLastActive, IsListOf, IsMentionedAt, IsTableOf, IsUpTo, active_with, is_entry_of}
 use Rattle.entries.specs.declared.kind.Kind.TheVariants as kind
 use Rattle.frame.proofs.LastActiveLemmas.{actives-close}
 use Rattle.frame.proofs.MentionListLemmas.{list-front, list-next, list-none, list-over, sound-mark, sound-own}
@@ -16,10 +16,6 @@ until-get : (at : ℕ) (ms : List Mention) (i : ℕ) (m : Mention) → IsUntil a
 until-get at [] i m until got = cc
 until-get at (u ∷ ms) zero m until got = let same : u ≡ m = cc in subst (λ (v : Mention). v.position ≤ at) same until.0
 until-get at (u ∷ ms) (suc i) m until got = until-get at ms i m until.1 got
-
-until-more : (at : ℕ) (ms : List Mention) (m : Mention) → IsUntil at ms → m.position ≤ at → IsUntil at (ms ++ m ∷ [])
-until-more at [] m until le = (le, tt)
-until-more at (u ∷ ms) m until le = (until.0, until-more at ms m until.1 le)
 
 kept-low : (n : ℕ) (ms : List Mention) → IsUntil n (kept_until n ms)
 kept-low n [] = tt

@@ -2,11 +2,11 @@
 -- re-exported from one place.
 pub use Rattle.entries.proofs.AddedStatement.{ok-weaker, on-err}
 pub use Rattle.entries.proofs.BufferPlaceLemmas.{get-push, take-get}
-pub use Rattle.entries.proofs.MentionLogLemmas.{kept-front as mentions-kept, until-kept, until-later}
+pub use Rattle.entries.proofs.MentionLogLemmas.{kept-front as mentions-kept, until-kept, until-later, until-more}
 pub use Rattle.entries.proofs.SpanLemmas.{cut-more, cut-push, extends-length, extends-refl, extends-take, range-behind, spans-push, spans-reverse}
 pub use Rattle.entries.proofs.StatementRecordLemmas.{get-last, get-more}
 pub use Rattle.entries.specs.Entries.{IsWholeView, Assertion, Entry, entry_by, entry_from_ref}
-pub use Rattle.entries.specs.Mentions.{AreKeptUntil, AreMentions, AreSame, AreUntil, AreWith, IsUntil, kept_until, mentions_of, positions_of}
+pub use Rattle.entries.specs.Mentions.{AreKeptUntil, AreSame, AreUntil, AreWith, IsUntil, kept_until, mentions_of, positions_of}
 pub use Rattle.entries.specs.Hypotheses.{decoded_hypothesis}
 pub use Rattle.entries.specs.Stored.Spans.{AreSpansIn, Extends, cut}
 pub use Rattle.entries.specs.declared.assertion_view.AssertionView.{AssertionView}
@@ -40,7 +40,7 @@ pub use Rattle.frame.specs.Stored.PairLists.{AddsBefore}
 pub use Rattle.frame.specs.Stored.Labels.{is_labelled_kind}
 pub use Rattle.frame.specs.Stored.Naming.{is_kind_of_symbol, naming_from, naming_of}
 pub use Rattle.frame.specs.Stored.OneFrame.{AreMandatory, among, is_needed, groups_among, is_in_essential, mandatory_positions}
-pub use Rattle.frame.specs.Stored.MentionLists.{AreGrown, ArePlaced, IsGrown, IsLastActive, IsListOf, IsMentionedAt, IsSound, IsTableOf, IsTail, IsUpTo, active_with, is_entry_of, passes, stands}
+pub use Rattle.frame.specs.Stored.MentionLists.{AreGrown, ArePlaced, IsGrown, IsLastActive, IsListOf, IsMentionedAt, IsTableOf, IsUpTo, active_with, is_entry_of, passes, stands}
 pub use Rattle.frame.specs.Stored.Stacks.{AreOfKind, IsOfKind, KeepsUntil, has_code, positions_with, having_after, kind_test, last_by_kind, opening}
 pub use Rattle.frame.specs.Stored.Whole.{AreKept, ArePartsFor, AreStored, IsEntryHeader, IsKeptOf}
 pub use Rattle.frame.specs.declared.storage.Storage.{Storage}

@@ -1,6 +1,6 @@
 use Rattle.entries.proofs.Words.{◌≡◌, ◌∙◌, ◌-◌, Some, ap, sym, subst, arith, slice_get, slice_set, length, take}
 use Rattle.entries.specs.Stored.MentionLog.{AreLogged}
-use Rattle.entries.proofs.MentionLogLemmas.{log-within, pop-step, IsPopStep}
+use Rattle.entries.proofs.MentionLogLemmas.{log-end, pop-step, IsPopStep}
 use Rattle.entries.proofs.mentions.Mentions.truncate.Goals as goal
 use Rattle.entries.proofs.mentions.Mentions.truncate.Goals.{In-Some, After-pop_after}
 
@@ -10,7 +10,7 @@ top c = sym c.in-Some.is ∙ (c.copied.ensures ∙ (c.last.ensures.value ∙ ap 
 pub index_mut-requires : goal.index_mut-requires
 index_mut-requires c =
     let s = c.loop-number.self-inside in
-    let w = (log-within s.log.items s.lists.items c.in-Some.number c.loop-number.invariant.logged (top (goal.at.index_mut-requires c).In-Some)).1 in
+    let w = (log-end s.log.items s.lists.items c.in-Some.number c.loop-number.invariant.logged (top (goal.at.index_mut-requires c).In-Some)).within in
     omega (arith, w, s.lists.ok.0)
 
 step : (c : After-pop_after) → IsPopStep c.loop-number.self-inside.log.items c.loop-number.self-inside.lists.items c.in-Some.number c.args.last c.pop_after.result c.pop_after.new.self
