@@ -9,6 +9,10 @@ rows-kept xs e (p ∷ ps) b =
     ap (λ s. (let r : Row = record { step = record { position = p.position; taken = p.taken.items }; expr = s } in r) ∷ map (row_of (xs ++ e)) ps) (seen-more xs e p.range b.0 b.1)
     ∙ ap (λ r. row_of xs p ∷ r) (rows-kept xs e ps b.2)
 
+-- the rows stay when symbols are appended
+pub rows-moved : (xs e zs : List ℕ) (ps : List StoredStep) → zs ≡ xs ++ e → AreInBuffer (length xs) ps → map (row_of zs) ps ≡ map (row_of xs) ps
+rows-moved xs e zs ps more b = ap (λ s. map (row_of s) ps) more ∙ rows-kept xs e ps b
+
 pub rows-more : (xs e zs : List ℕ) (ps : List StoredStep) (p : StoredStep) (step : Step) → AreInBuffer (length xs) ps → zs ≡ xs ++ e → p.range.start ≡ length xs → p.range.end ≡ length zs
     → p.position ≡ step.position → p.taken.items ≡ step.taken → map (row_of zs) (ps ++ p ∷ []) ≡ map (row_of xs) ps ++ (let r : Row = record { step = step; expr = e } in r) ∷ []
 rows-more xs e zs ps p step b same start end position taken =

@@ -1,13 +1,12 @@
 pub mod Words
 pub mod KnownMapLemmas
-pub mod ConcludingLemmas
 pub mod DraftLemmas
 pub mod DraftRowLemmas
 pub mod PlacingLemmas
 pub mod CiteLemmas
 pub mod DraftedItemLemmas
 pub mod SoundLemmas
-pub mod ReachedLemmas
+pub mod ListeningLemmas
 pub mod PremiseLemmas
 pub mod EssentialMarkLemmas
 pub mod MarkedPlaceLemmas

@@ -13,6 +13,7 @@ pub use Rattle.frame.specs.AtPosition.{HasLegalProperties, ArePositions, HasLabe
 pub use Rattle.frame.specs.Below.{AllBelow, AreBelow}
 pub use Rattle.frame.specs.WellTyped.{IsWellTyped}
 pub use Rattle.frame.specs.Citations.{Carries, IsHypothesis, IsInstance, premises}
+pub use Rattle.frame.specs.Parts.{Numbered}
 pub use Rattle.frame.specs.FrameOf.{HasAssertion, hypotheses}
 pub use Rattle.frame.specs.Substitution.{code_apply}
 pub use Rattle.frame.specs.declared.meaning.Meaning.TheVariants.{Nothing}
@@ -29,7 +30,7 @@ pub use Rattle.scope.proofs.StatementPlaces.{stands-within}
 pub use Rattle.scope.specs.Active.{before, expr_of, is_assertion, stmt_at}
 pub use Rattle.std.proofs.Common.{ap, append_assoc, arith, drop, inl, inr, is_some, length-append, subst, sym, take, true≢false, ◌∙◌, ◌≡◌}
 pub use Rattle.std.proofs.lemmas.Bool.{cases_Bool, cases_lt}
-pub use Rattle.std.proofs.lemmas.List.{drop_all, get_or-set_same, length-map, length-replicate, length-set, map-append, map_push}
+pub use Rattle.std.proofs.lemmas.List.{drop_all, get_or-set_same, same_from_push, length-map, length-replicate, length-set, map-append, map_push}
 pub use Rattle.std.proofs.lemmas.Option.{get_or_from_slice_get, slice_get-get_or, slice_get_within}
 pub use Rattle.std.proofs.lemmas.Result.{IfOk-weaker, on_ok_weaker}
 pub use Rattle.std.proofs.lemmas.Slice.Eq.{bytes_eq-Decides}
@@ -45,7 +46,7 @@ pub use Rattle.std.specs.declared.vec.Vec.{Vec}
 pub use Rattle.steps.specs.Essential.{AreEssential, IsEssential, IsIn, IsRenumbered, premise_places, taken_for_premises, is_last, is_premise, is_taken, mandatory_hypotheses}
 pub use Rattle.steps.specs.Rows.{AreRows, Follows, IsRow, Row, expr_in, from_assertion, from_hypothesis, no_row, row, steps_of}
 pub use Rattle.steps.specs.StepTable.{AreSteps, IsPlaced, IsStepOf, Progress, RecordsItem, RecordsItems, Step, is_appended, of_assertion, of_hypothesis, progress, was_there}
-pub use Rattle.steps.specs.Stored.Drafted.{AreInBuffer, AreStepPlaces, CanRun, FindsStep, CitesAssertion, CitesHypothesis, IsItemRecorded, IsDraft, AgreesWithRun, codes_in, key_of, range_in, place_of, progress_of, row_of, rows_of}
+pub use Rattle.steps.specs.Stored.Drafted.{AreInBuffer, AreStepPlaces, FindsStep, CitesStep, IsDraft, IsDraftOf, AgreesWithRun, key_of, place_of, progress_of, row_of, rows_of}
 pub use Rattle.steps.specs.Stored.Marked.{AreMarkedFrom, AreMarks, AreNumbers, HasMark, MarksMore, kept_row, mark_each, mark_last, marked_before, number_of, taken_for_essentials}
 pub use Rattle.steps.specs.Unfolded.{citation_over, has_assertion, last_unfolded, unfolded, unfolded_after}
 pub use Rattle.steps.specs.declared.table_draft.StoredStep.{StoredStep}
@@ -56,27 +57,22 @@ pub use Rattle.subst.specs.Stored.Written.{Appends}
 pub use Rattle.subst.specs.SymbolRanges.{AreWithin, images_at, symbols_in}
 pub use Rattle.subst.specs.declared.buffer.TheConstants.{SYMBOLS_LIMIT}
 pub use Rattle.subst.specs.declared.symbol_range.SymbolRange.{SymbolRange}
-pub use Rattle.verify.proofs.CitationLemmas.{Meets, meets-step}
-pub use Rattle.verify.proofs.CitingLemmas.{read-over}
 pub use Rattle.verify.proofs.Complete.{conclude_same}
 pub use Rattle.verify.proofs.Decide.{append_cut, length-premises, not_both}
 pub use Rattle.verify.proofs.GrowthLemmas.{leaves}
-pub use Rattle.verify.proofs.ImageLemmas.{apply-below}
 pub use Rattle.verify.proofs.LabelTableLemmas.{has_with, suc_back}
-pub use Rattle.verify.proofs.LawsHold.{spellings_run}
 pub use Rattle.verify.proofs.MarkLemmas.{no-mark, set_true}
 pub use Rattle.verify.proofs.Named.{halves, length-top}
 pub use Rattle.verify.proofs.PlanLemmas.{below-get, map-pick, trees-same}
-pub use Rattle.verify.proofs.ReadImageLemmas.{reads-seen}
 pub use Rattle.verify.proofs.RequiredHypotheses.{required-different, required-lengths}
 pub use Rattle.verify.proofs.ResultPlaceLemmas.{get-map, map-drop}
 pub use Rattle.verify.proofs.StepLemmas.{all-taken, items-more}
+pub use Rattle.verify.proofs.WalkLemmas.{run-as}
 pub use Rattle.verify.specs.Derivations.{Derivation, apply, from_list, hyp}
-pub use Rattle.verify.specs.HypothesisResults.{AreDifferent, AreRead, IsTyped, Reads}
 pub use Rattle.verify.specs.Growth.{Grows, GrowsBy, Trees, a_hypothesis, an_assertion, trees}
 pub use Rattle.verify.specs.Machine.{Cites, Results, Runs, State, RunsItem, start, with_mark, with_result}
 pub use Rattle.verify.specs.Plan.{pick}
-pub use Rattle.verify.specs.ReadPlaces.{ReadsAll}
-pub use Rattle.verify.specs.ResultPlaces.{below, top}
+pub use Rattle.verify.specs.ResultPlaces.{HeldResults, below, top}
 pub use Rattle.verify.specs.Right.{Derives, IsRight}
-pub use Rattle.verify.specs.RunsItemByNumber.{AreNamed}
+pub use Rattle.verify.specs.RunsItemByNumber.{AreNamed, named}
+pub use Rattle.verify.specs.Walk.{CitesAssertion, CitesHypothesis, Hears, IsDone, IsMark, IsRecall, Walk, walk_on, walk_start}

@@ -1,11 +1,9 @@
 -- The definitions of other crates that this crate's specifications use, re-exported.
-pub use Rattle.entries.specs.declared.assertion_view.AssertionView.{AssertionView}
 pub use Rattle.entries.specs.declared.assertion_view.Hypothesis.{Hypothesis}
 pub use Rattle.entries.specs.declared.assertion_view.Hypothesis.TheVariants.{Essential, Float}
 pub use Rattle.frame.specs.Below.{AreBelow}
 pub use Rattle.frame.specs.Citations.{Carries, IsHypothesis, IsInstance, premises}
 pub use Rattle.frame.specs.FrameOf.{hypotheses}
-pub use Rattle.frame.specs.Substitution.{CodeImages, code_apply}
 pub use Rattle.mm_lex.specs.Alphabet.{Name}
 pub use Rattle.mm_read.specs.Statements.{Database, Expr}
 pub use Rattle.mm_read.specs.declared.stmt.Stmt.{Stmt}
@@ -22,8 +20,8 @@ pub use Rattle.std.specs.declared.vec.Vec.{Vec}
 pub use Rattle.subst.specs.SymbolRanges.{symbols_in}
 pub use Rattle.subst.specs.declared.symbol_range.SymbolRange.{SymbolRange}
 pub use Rattle.verify.specs.Derivations.{Derivation, apply, from_list, hyp}
-pub use Rattle.verify.specs.HypothesisResults.{AreRead}
-pub use Rattle.verify.specs.Machine.{State, RunsItem}
+pub use Rattle.verify.specs.Machine.{State}
 pub use Rattle.verify.specs.Plan.{pick}
-pub use Rattle.verify.specs.ResultPlaces.{below, top}
+pub use Rattle.verify.specs.RunsItemByNumber.{named}
 pub use Rattle.verify.specs.Spells.{IsCitable}
+pub use Rattle.verify.specs.Walk.{Walk}

@@ -7,15 +7,13 @@
 //! such a table: the last step, and those that an essential step takes for a `$e`. A place is the
 //! index of a step in the table, from 0.
 //!
-//! Reading order: `steps_table` (the table, and `proof_table`), `recording` (one item),
-//! `table_draft` (one citation), `concluding` (one conclusion), `step_places` (finds equal steps),
-//! `essential` (the essential steps), `laws`.
+//! Reading order: `steps_table` (the table, and `proof_table`), `table_draft` (listens to the run of
+//! `verify` over the items), `step_places` (finds equal steps), `essential` (the essential steps),
+//! `laws`.
 #![tactic(auto)]
 
-mod concluding;
 mod essential;
 pub mod laws;
-mod recording;
 mod step_places;
 mod steps_table;
 mod table_draft;

@@ -7,13 +7,13 @@ ghost use Rattle.steps.specs.StepTable.{AreSteps};
 ghost use Rattle.steps.specs.Rows.{no_row, row, steps_of, expr_in, AreRows};
 ghost use Rattle.steps.specs.Unfolded.{last_unfolded};
 
-use crate::recording::record_item;
 use crate::table_draft::{StoredStep, TableDraft};
-use frame::{FrameBuffers, Frames};
+use frame::Frames;
 use proof_code::Items;
 use std::alloc::{AllocError, Global};
 use std::marker::Model;
 use subst::{Buffer, SYMBOLS_LIMIT, range_between, symbols_at};
+use verify::{Outcome, run};
 
 /// The steps of a proof without duplicates, each after the steps that it takes. Contracts see the
 /// list of rows.
@@ -21,7 +21,7 @@ use subst::{Buffer, SYMBOLS_LIMIT, range_between, symbols_at};
 pub struct ProofTable {
     /// The steps, each with the range of its expression.
     stored: Vec<StoredStep>,
-    /// The symbols of all expressions.
+    /// The symbols of all expressions, and of the other results of the run.
     symbols: Buffer,
 }
 
@@ -110,9 +110,8 @@ impl ProofTable {
 /// Returns the steps of the items of a right proof of the `$p` at position `at`, each with its
 /// expression.
 ///
-/// Errors: an allocation fails. Cost: that of the proof, and of finding each citation among the
-/// steps. There is no limit on the number of steps. If `Frames::whole_view` returns `None` for a
-/// cited assertion, its parts are made at each citation.
+/// Errors: an allocation fails. Cost: that of `verify::check`, and of finding each citation among the
+/// steps. There is no limit on the number of steps.
 /// Source: Metamath, 4.2.6 and appendix B.
 pub fn proof_table(
     alloc: Global,
@@ -127,23 +126,12 @@ pub fn proof_table(
         → expr_in frames.now.names table (length table - 1) ≡ expr_of s) }
     ensures derives { IfOk result (λ table. Derives frames.now.statements at items.now (last_unfolded frames.now.statements (steps_of table))) }
 {
-    let parts = items.parts();
-    let positions = frames.positions(parts.labels)?;
-    let mut buffers = FrameBuffers::new(alloc);
     let mut draft = TableDraft::new(alloc);
-    for number in parts.numbers {
-        record_item(
-            alloc,
-            frames,
-            at,
-            &positions,
-            *number,
-            &mut buffers,
-            &mut draft,
-        )?;
+    match run(alloc, frames, at, items, &mut draft)? {
+        Outcome::Right(results) => Ok(ProofTable {
+            stored: draft.stored,
+            symbols: results.into_symbols(),
+        }),
+        Outcome::Failed(_) => unreachable!(),
     }
-    Ok(ProofTable {
-        stored: draft.stored,
-        symbols: draft.symbols,
-    })
 }

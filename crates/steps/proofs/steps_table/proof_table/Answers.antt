@@ -1,60 +1,41 @@
-use Rattle.steps.proofs.Words.{sym, subst, ArePositions, stands-within}
-use Rattle.steps.proofs.ReachedLemmas.{reached-start, reached-can, reached-next, reached-steps, reached-last}
+use Rattle.steps.proofs.Words.{◌≡◌, ◌-◌, [], length, map, sym, subst, ap, ◌∙◌, AreInBuffer, AreSteps, AreRows, rows_of, row_of, steps_of, expr_in, expr_of}
+use Rattle.steps.proofs.ListeningLemmas.{draft-start, all-steps, last-expr}
 use Rattle.steps.proofs.UnfoldLemmas.{unfolds}
 use Rattle.steps.proofs.steps_table.proof_table.Goals as goal
 
-pub loop-number-init : goal.loop-number-init
-loop-number-init c = (
-  c.in_ok-positions.ensures.legal,
-  c.new-draft.ensures.draft c.args.frames.now.statements c.args.at c.args.frames.now.names,
-  (
-    c.parts-parts.result.labels.now,
-    c.in_ok-positions.ensures.found,
-    c.parts-parts.ensures,
-    reached-start c.args.frames.now.statements c.args.at c.args.frames.now.names c.in_ok-positions.ensures.legal c.parts-parts.result.labels.now c.parts-parts.result.numbers.now c.args.items.now c.new-draft.result c.parts-parts.ensures c.requires
-        c.new-draft.ensures.empty.0 c.new-draft.ensures.empty.1 c.new-draft.ensures.empty.2,
-  ),
-)
+pub run-requires : goal.run-requires
+run-requires c = (c.requires.1.stmt, c.requires.1.stands)
 
-pub record_item-requires-clause-place : goal.record_item-requires-clause-place
-record_item-requires-clause-place c =
-    let r = c.loop-number.invariant.2.3 in
-    stands-within c.args.frames.now.statements c.args.at r.stmt r.stands
+pub unreachable-requires : goal.unreachable-requires
+unreachable-requires c = (rw c.in-Failed.is at c.in_ok-results.ensures.outcome).0 c.requires
 
-pub record_item-requires-clause-can : goal.record_item-requires-clause-can
-record_item-requires-clause-can c =
-    let i = c.loop-number.invariant.2 in (
-      i.0,
-      subst (ArePositions c.args.frames.now.statements i.0) (sym c.deref.ensures.value) i.1,
-      reached-can c.args.frames.now.statements c.args.at c.args.frames.now.names i.0 c.parts-parts.result.numbers.now c.loop-number.number-index c.loop-number.draft c.loop-number-test.true i.3,
-    )
-
-pub loop-number-preserved : goal.loop-number-preserved
-loop-number-preserved c =
-    let i = c.loop-number.invariant.2 in (
-      c.loop-number.invariant.0,
-      c.in_ok-record_item.ensures.draft,
-      (
-        i.0,
-        i.1,
-        i.2,
-        reached-next c.args.frames.now.statements c.args.at c.args.frames.now.names i.0 c.parts-parts.result.numbers.now c.loop-number.number-index c.loop-number.draft c.record_item.new.draft c.loop-number-test.true i.3
-            (c.in_ok-record_item.ensures.done i.0 (subst (ArePositions c.args.frames.now.statements i.0) (sym c.deref.ensures.value) i.1)),
-      ),
-    )
+pub returns-clause-rows : goal.returns-clause-rows
+returns-clause-rows c =
+    let S = c.args.frames.now.statements in let names = c.args.frames.now.names in let at = c.args.at in let items = c.args.items.now in let d = c.run.new.listener in
+    let table : map (row_of c.into_symbols.result) d.stored.items ≡ rows_of c.in-Right.results.symbols d = ap (λ s. map (row_of s) d.stored.items) c.into_symbols.ensures in
+    let heard = rw c.in-Right.is at (c.in_ok-results.ensures.heard (draft-start c.args.frames.now c.args.at c.new-draft.result (c.new-draft.ensures.draft c.args.frames.now.statements c.args.at c.args.frames.now.names []) c.new-draft.ensures.empty.0 c.new-draft.ensures.empty.1 c.new-draft.ensures.empty.2)) in
+    subst (AreRows S at names) (sym table) heard.draft.rows
 
 pub returns-clause-steps : goal.returns-clause-steps
 returns-clause-steps c =
-    let i = c.loop-number.invariant.2 in
-    reached-steps c.args.frames.now.statements c.args.at c.args.frames.now.names i.0 c.parts-parts.result.numbers.now c.args.items.now c.loop-number.number-index _ i.2 c.loop-number-test.false i.3
+    let S = c.args.frames.now.statements in let names = c.args.frames.now.names in let at = c.args.at in let items = c.args.items.now in let d = c.run.new.listener in
+    let table : map (row_of c.into_symbols.result) d.stored.items ≡ rows_of c.in-Right.results.symbols d = ap (λ s. map (row_of s) d.stored.items) c.into_symbols.ensures in
+    let heard = rw c.in-Right.is at (c.in_ok-results.ensures.heard (draft-start c.args.frames.now c.args.at c.new-draft.result (c.new-draft.ensures.draft c.args.frames.now.statements c.args.at c.args.frames.now.names []) c.new-draft.ensures.empty.0 c.new-draft.ensures.empty.1 c.new-draft.ensures.empty.2)) in
+    let one = (rw c.in-Right.is at c.in_ok-results.ensures.outcome).1 c.requires.1.stmt c.requires.1.stands in
+    subst (λ t. AreSteps S at items (steps_of t)) (sym table) (all-steps S at names c.in-Right.results.symbols items d heard.recorded (expr_of c.requires.1.stmt) (heard.agrees.stack ∙ one))
 
 pub returns-clause-last : goal.returns-clause-last
-returns-clause-last c =
-    let i = c.loop-number.invariant.2 in
-    λ s stands. reached-last c.args.frames.now.statements c.args.at c.args.frames.now.names i.0 c.parts-parts.result.numbers.now c.args.items.now c.loop-number.number-index _ i.2 c.loop-number-test.false i.3 s stands
+returns-clause-last c = λ s stands.
+    let S = c.args.frames.now.statements in let names = c.args.frames.now.names in let at = c.args.at in let items = c.args.items.now in let d = c.run.new.listener in
+    let table : map (row_of c.into_symbols.result) d.stored.items ≡ rows_of c.in-Right.results.symbols d = ap (λ s. map (row_of s) d.stored.items) c.into_symbols.ensures in
+    let heard = rw c.in-Right.is at (c.in_ok-results.ensures.heard (draft-start c.args.frames.now c.args.at c.new-draft.result (c.new-draft.ensures.draft c.args.frames.now.statements c.args.at c.args.frames.now.names []) c.new-draft.ensures.empty.0 c.new-draft.ensures.empty.1 c.new-draft.ensures.empty.2)) in
+    let one = (rw c.in-Right.is at c.in_ok-results.ensures.outcome).1 s stands in
+    subst (λ t. expr_in names t (length t - 1) ≡ expr_of s) (sym table) (last-expr S at names c.in-Right.results.symbols items d heard.recorded (expr_of s) (heard.agrees.stack ∙ one))
 
 pub returns-clause-derives : goal.returns-clause-derives
-returns-clause-derives c =
-    let i = c.loop-number.invariant.2 in
-    let are = reached-steps c.args.frames.now.statements c.args.at c.args.frames.now.names i.0 c.parts-parts.result.numbers.now c.args.items.now c.loop-number.number-index _ i.2 c.loop-number-test.false i.3 in
-    unfolds c.args.frames.now.statements c.args.at c.in_ok-positions.ensures.legal.once c.args.items.now _ c.requires are
+returns-clause-derives c = unfolds c.args.frames.now.statements c.args.at c.run.ensures.legal.once c.args.items.now _ c.requires (returns-clause-steps c)
+
+pub invariant_of-result : goal.invariant_of-result
+invariant_of-result c =
+    let heard = rw c.in-Right.is at (c.in_ok-results.ensures.heard (draft-start c.args.frames.now c.args.at c.new-draft.result (c.new-draft.ensures.draft c.args.frames.now.statements c.args.at c.args.frames.now.names []) c.new-draft.ensures.empty.0 c.new-draft.ensures.empty.1 c.new-draft.ensures.empty.2)) in
+    subst (λ s. AreInBuffer (length s) c.run.new.listener.stored.items) (sym c.into_symbols.ensures) heard.draft.inside
