@@ -1,5 +1,5 @@
 -- The machine over derivations: items spell at most one derivation; the effect of citations.
-use Rattle.verify.proofs.Words.{◌≡◌, ℕ, zero, suc, List, [], ◌∷◌, ◌++◌, length, refl, ◌-◌, ◌<◌, ◌≤◌, map, get_or, sym, ◌∙◌, ap, subst, append_assoc, append-nil, arith, same_from_push, Name, Stmt, Expr, Database, stmt_at, before, is_assertion, hypotheses, Item, Cite, Recall, Mark, Derivation, Derivations, hyp, apply, none, more, from_list, ConcludeAll, IsHypothesis, premises, Carries, IsCitable, Spells, SpellsAll, cites_hypothesis, cites_assertion, recalls, marks, spells_none, spells_more, HasLabelsOnce, Trees, trees, Builds, a_hypothesis, an_assertion, IsSavedTree, Grows, GrowsBy, with_tree, some-same, below, top, IsRight, Derives}
+use Rattle.verify.proofs.Words.{◌≡◌, ℕ, zero, suc, List, [], ◌∷◌, ◌++◌, length, refl, ◌<◌, ◌≤◌, map, get_or, sym, ◌∙◌, ap, subst, append_assoc, append-nil, arith, same_from_push, Name, Stmt, Expr, Database, stmt_at, before, is_assertion, hypotheses, Item, Cite, Recall, Mark, Derivation, Derivations, hyp, apply, none, more, from_list, ConcludeAll, IsHypothesis, premises, Carries, IsCitable, Spells, SpellsAll, cites_hypothesis, cites_assertion, recalls, marks, spells_none, spells_more, HasLabelsOnce, Trees, trees, Builds, a_hypothesis, an_assertion, IsSavedTree, Grows, GrowsBy, with_tree, some-same, below, top, IsRight, Derives}
 use Rattle.verify.proofs.Decide.{append_cut, length-premises, not_both}
 use Rattle.verify.proofs.Named.{halves, length-top}
 

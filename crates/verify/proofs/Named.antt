@@ -1,5 +1,5 @@
 -- Steps over numbers are steps over the names that they stand for.
-use Rattle.verify.proofs.Words.{◌≡◌, ℕ, zero, suc, ◌+◌, ◌-◌, ◌≤◌, Bool, true, false, List, [], ◌∷◌, ◌++◌, length, drop, get_or, slice_get, refl, map, take, Some, option_map, sym, ◌∙◌, ap, arith, subst, length-append, length-drop, length-map, take-append-drop, map_push, slice_get-map, AreBelow, AllBelow, Results, IsSaved, with_result, with_mark, Adds, below, top, Marks, Recalls, below-group, Name, Expr, Database, name_at, decode, Recall, Mark, named, AreNamed, RunsItemByNumber}
+use Rattle.verify.proofs.Words.{◌≡◌, ℕ, zero, suc, ◌+◌, ◌-◌, ◌≤◌, Bool, true, false, List, [], ◌∷◌, ◌++◌, length, drop, get_or, slice_get, refl, map, take, Some, option_map, sym, ◌∙◌, ap, arith, subst, length-append, length-drop, length-map, take-append-drop, map_push, slice_get-map, AreBelow, AllBelow, Results, IsSaved, with_result, with_mark, below, top, Marks, Recalls, below-group, Name, Expr, Database, name_at, decode, Recall, Mark, named, AreNamed, RunsItemByNumber}
 use Rattle.verify.proofs.ResultPlaceLemmas.{results-same}
 
 -- ---- lists

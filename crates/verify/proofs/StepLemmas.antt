@@ -1,7 +1,7 @@
 -- The exits of a step in the code are steps of the machine.
-use Rattle.verify.proofs.Words.{◌≡◌, ℕ, suc, ◌+◌, ◌-◌, ◌<◌, ◌≤◌, Bool, true, false, List, [], ◌∷◌, ◌++◌, length, map, take, drop, get_or, Some, refl, sym, ◌∙◌, ap, subst, arith, length-map, map-append, take-append-drop, take_all, drop_more, map_more, item-cite, item-recall, Name, Stmt, Database, stmt_at, expr_of, name_at, decode, Item, Cite, Recall, Results, start, Cites, Runs, Adds, Marks, Recalls, AreBelow, AllBelow, named, AreNamed, RunsItemByNumber, HasCited, HasLegalProperties, item_of, IsRight, weight_limit, decode-injective, LabelEntry, AreEntries}
+use Rattle.verify.proofs.Words.{◌≡◌, ℕ, suc, ◌+◌, ◌-◌, ◌<◌, ◌≤◌, Bool, true, false, List, [], ◌∷◌, ◌++◌, length, map, take, get_or, Some, refl, sym, ◌∙◌, ap, subst, arith, length-map, take_all, map_more, item-cite, item-recall, Name, Stmt, Database, stmt_at, expr_of, name_at, decode, Item, Cite, Recall, Results, start, Cites, Runs, Adds, AreBelow, AllBelow, named, AreNamed, RunsItemByNumber, HasLegalProperties, item_of, IsRight, weight_limit, decode-injective, LabelEntry, AreEntries}
 use Rattle.verify.proofs.Named.{named-result, result-named}
-use Rattle.verify.proofs.Decide.{cites_same, refuted_at_end, refuted_at_step, accepts_right}
+use Rattle.verify.proofs.Decide.{cites_same, refuted_at_end, accepts_right}
 use Rattle.verify.proofs.Complete.{runs_append}
 
 module _ (S : Database) (names : List Name) (at : ℕ) (legal : HasLegalProperties S names) where
@@ -30,9 +30,6 @@ module _ (S : Database) (names : List Name) (at : ℕ) (legal : HasLegalProperti
   reached-step items item old new r g =
       record { runs = runs_append S at (legal.single at) items (item ∷ []) start (named names old) (named names new) r.runs (named names new, g.0, refl); are_named = g.1 }
 
-  pub wrong-step : (items rest : List Item) (item : Item) (old new : Results ℕ) (s : Stmt) → stmt_at S at ≡ Some s → Reached items old → RunsItemByNumber false S at names item old new → IsRight S at (items ++ item ∷ rest) → ⊥
-  wrong-step items rest item old new s stands r g right = refuted_at_step S at (legal.single at) legal.once items rest item (named names old) s stands r.runs g right
-
   pub right-end : (items : List Item) (st : Results ℕ) (s : Stmt) (e : List ℕ) → stmt_at S at ≡ Some s → Reached items st → decode names e ≡ expr_of s → st.stack ≡ e ∷ [] → st.weight ≤ weight_limit → IsRight S at items
   right-end items st s e stands r same one light =
       accepts_right S at (legal.single at) legal.once items s stands (record { end = named names st; runs = r.runs; one = ap (map (decode names)) one ∙ ap (λ x. x ∷ []) same; light = light })
@@ -48,12 +45,6 @@ module _ (S : Database) (names : List Name) (at : ℕ) (legal : HasLegalProperti
 
 pub items-more : (labels : List Name) (numbers : List ℕ) (i : ℕ) → i < length numbers → map (item_of labels) (take (i + 1) numbers) ≡ map (item_of labels) (take i numbers) ++ item_of labels (get_or numbers i 0) ∷ []
 items-more labels numbers i h = map_more (item_of labels) numbers i 0 h
-
-pub items-rest : (labels : List Name) (numbers : List ℕ) (i : ℕ) → i < length numbers
-    → map (item_of labels) numbers ≡ map (item_of labels) (take i numbers) ++ item_of labels (get_or numbers i 0) ∷ map (item_of labels) (drop (i + 1) numbers)
-items-rest labels numbers i h =
-    ap (map (item_of labels)) (sym (take-append-drop i numbers))
-    ∙ (map-append (item_of labels) (take i numbers) (drop i numbers) ∙ ap (λ ns. map (item_of labels) (take i numbers) ++ map (item_of labels) ns) (drop_more numbers i 0 h))
 
 pub all-taken : {A B : Type 0} (f : A → B) (xs : List A) (n : ℕ) → length xs ≤ n → map f (take n xs) ≡ map f xs
 all-taken f xs n h = ap (map f) (take_all n xs h)

@@ -1,5 +1,5 @@
 -- The counts of results after an item, and listeners that follow a walk.
-use Rattle.verify.proofs.Words.{◌≡◌, ℕ, suc, ◌+◌, ◌-◌, ◌<◌, true, false, List, [], ◌∷◌, ◌++◌, length, Some, map, slice_get_within, take, take_all, item_of, items_of, ◌≤◌, sym, ◌∙◌, ap, subst, arith, length-append, length-map, Name, Stmt, Expr, Database, stmt_at, before, hypotheses, is_assertion, Item, Cite, Mark, Recall, decode, HasLabelsOnce, Results, State, Cites, of_hypothesis, of_assertion, premises, RunsItem, with_result, named, AreNamed, HasLegalProperties, Assertion, IsEntry, IsKept, HeldResults, Walk, walk, walk_start, IsDone, IsHeard, Hears, Numbered, SymbolRange, CitesHypothesis, CitesAssertion, IsLastRange, RunsItemByNumber, refl, some-same}
+use Rattle.verify.proofs.Words.{◌≡◌, ℕ, suc, ◌+◌, ◌-◌, ◌<◌, true, false, List, [], ◌∷◌, length, Some, map, slice_get_within, take, take_all, item_of, items_of, ◌≤◌, sym, ◌∙◌, ap, subst, arith, length-append, length-map, Name, Stmt, Expr, Database, stmt_at, before, hypotheses, is_assertion, Item, Cite, Mark, Recall, decode, HasLabelsOnce, Results, State, Cites, of_hypothesis, of_assertion, premises, RunsItem, with_result, named, AreNamed, HasLegalProperties, Assertion, IsEntry, IsKept, HeldResults, Walk, walk, walk_start, IsDone, IsHeard, Hears, Numbered, SymbolRange, CitesHypothesis, CitesAssertion, IsLastRange, RunsItemByNumber, refl, some-same}
 use Rattle.verify.specs.declared.label_table.LabelEntry.TheVariants.{Hypothesis}
 use Rattle.verify.proofs.Decide.{length-premises, not_both}
 

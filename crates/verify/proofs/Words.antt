@@ -43,7 +43,7 @@ pub use Rattle.std.proofs.lemmas.Bool.Decides.{nat_tests}
 pub use Rattle.std.proofs.lemmas.Bool.{and_from, leb-true, lt-ltb, ltb-true, not-false, not-true, or_left, or_right}
 pub use Rattle.std.proofs.lemmas.List.Folds.{list_any-append}
 pub use Rattle.std.proofs.lemmas.List.Sorted.{searched}
-pub use Rattle.std.proofs.lemmas.List.{drop-append-le, drop-drop, drop-map, drop-set-lt, drop-take, drop_all, drop_at, drop_more, ext_get_or, get_or-replicate, get_or-set_other, get_or-set_same, get_or_default, length-map, length-replicate, length-set, length-take-le, length_push, map-append, map-set, map_more, map_push, nil_from_length, same_from_push, take-append-drop, take-map, take_all, take_at, take_more, take_rest}
+pub use Rattle.std.proofs.lemmas.List.{drop-drop, drop-map, drop-take, drop_all, drop_at, drop_more, ext_get_or, get_or_default, length-map, length-take-le, length_push, map-append, map_more, map_push, same_from_push, take-append-drop, take-map, take_all, take_at, take_more, take_rest}
 pub use Rattle.std.proofs.lemmas.Option.{get_or_from_slice_get, same_Some, slice_get-get_or, slice_get-map, slice_get_within}
 pub use Rattle.std.proofs.lemmas.Result.{IfOk-at_ok, IfOk-weaker, on_ok_weaker}
 pub use Rattle.std.proofs.lemmas.Slice.Eq.{bytes_eq-Decides}
@@ -78,7 +78,7 @@ pub use Rattle.verify.specs.ResultPlaces.{Adds, AreResultRanges, HeldResults, Is
 pub use Rattle.verify.specs.Right.{Derives, IsProvable, IsRight, IsSmall, IsAnswerTo, weight_limit}
 pub use Rattle.verify.specs.Spells.{IsCitable, Spells, SpellsAll, cites_assertion, cites_hypothesis, marks, recalls, spells_more, spells_none}
 pub use Rattle.verify.specs.RunsItemByNumber.{AreNamed, HasCited, MayCite, RunsItemByNumber, RunsItemIn, named}
-pub use Rattle.verify.specs.Stops.{HasHeardAll, IsFirstFailure, IsOutcome, IsStopped, StopsAt}
+pub use Rattle.verify.specs.Stops.{StopsAt}
 pub use Rattle.verify.specs.Walk.{CitesAssertion, CitesHypothesis, Hears, IsDone, IsHeard, IsLastRange, IsMark, IsRecall, Walk, walk, walk_on, walk_start}
 pub use Rattle.verify.specs.declared.answer.Answer.TheVariants.{Proved, Wrong}
 pub use Rattle.verify.specs.declared.answer.Answer.{Answer}

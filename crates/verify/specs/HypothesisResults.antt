@@ -4,7 +4,7 @@
 -- The code checks first symbols, reads the images from the results, and compares each `$e` under
 -- them with its result.
 use Rattle.std.specs.Prelude.{◌≡◌, ℕ, ◌<◌, Bool, true, false, IsTrue, List, [], ◌∷◌, length, map, drop, get_or, slice_get, Some}
-use Rattle.verify.specs.Words.{decode, Name, Stmt, Expr, Database, stmt_at, Images, applied, CodeImages, code_image, expr_at, Hypothesis, Float, Essential, typecode_of, Numbered, images_of_names}
+use Rattle.verify.specs.Words.{decode, Stmt, Expr, Database, stmt_at, Images, applied, CodeImages, code_image, expr_at, Hypothesis, Float, Essential, typecode_of, Numbered, images_of_names}
 use Rattle.verify.specs.ResultPlaces.{HeldResults, top}
 
 -- the `$f` are of different variables

@@ -4,7 +4,6 @@
 -- The code goes over the items once; the derivation and the table of a proof are made by listeners.
 use Rattle.std.specs.Prelude.{◌≡◌, ℕ, suc, ◌+◌, ◌≤◌, Bool, true, false, List, [], ◌∷◌, ◌++◌, length, Some}
 use Rattle.verify.specs.Words.{Name, Stmt, Database, before, hypotheses, stmt_at, Item, Cite, Recall, Mark, HasLegalProperties, Numbered, SymbolRange, symbols_in}
-use Rattle.verify.specs.declared.label_table.LabelEntry.{LabelEntry}
 use Rattle.verify.specs.declared.label_table.LabelEntry.TheVariants.{Hypothesis, Assertion}
 use Rattle.verify.specs.LabelTable.{IsEntry}
 use Rattle.verify.specs.Machine.{Results, RunsItem}

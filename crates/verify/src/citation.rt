@@ -1,8 +1,8 @@
 //! Runs one item of a proof, and tells a listener.
 
-ghost use Rattle.std.specs.Prelude.{◌<◌, ◌≤◌, suc, List, IfOk, length};
+ghost use Rattle.std.specs.Prelude.{List, IfOk};
 ghost use Rattle.mm_lex.specs.Alphabet.{Name};
-ghost use Rattle.proof_code.specs.declared.item.Item.TheVariants.{Cite, Mark, Recall};
+ghost use Rattle.proof_code.specs.declared.item.Item.TheVariants.{Cite};
 ghost use Rattle.proof_code.specs.ItemNumbers.{item_of};
 ghost use Rattle.verify.specs.RunsItemByNumber.{AreEntriesIn, IsEntryIn, IsReady, MayCite, IsCitedView};
 ghost use Rattle.verify.specs.RunsItemByNumber.{AreNamed, HasCitedIn, RunsItemIn};
@@ -127,52 +127,6 @@ fn cite_entry<L: Listener>(
     }
 }
 
-/// Marks the last result, and tells the listener. Returns `false` if there is none.
-///
-/// Errors: an allocation fails.
-#[inline(always)]
-fn mark<L: Listener>(
-    context: &ProofContext<'_>,
-    buffers: &mut Buffers,
-    listener: &mut L,
-) -> Result<bool, AllocError>
-    requires ready { IsReady context.now }
-    requires named { AreNamed context.now.frames.now.names buffers.old.results.results }
-    ensures effect { IfOk result (RunsItemIn context.now Mark buffers.old.results buffers.new.results) }
-    ensures kept { IfOk result (λ ok. IsKept ok buffers.old.results buffers.new.results) }
-    ensures heard { IfOk result (λ ok. IsHeard ok L.follows context.now.frames.now context.now.at Mark buffers.old.results buffers.new.results listener.old listener.new) }
-{
-    if !buffers.results.mark()? {
-        return Ok(false);
-    }
-    listener.mark()?;
-    Ok(true)
-}
-
-/// Recalls the marked result at an index, from 0, and tells the listener. Returns `false` if there
-/// is none or the proof would be too heavy.
-///
-/// Errors: an allocation fails.
-#[inline(always)]
-fn recall<L: Listener>(
-    context: &ProofContext<'_>,
-    index: usize,
-    buffers: &mut Buffers,
-    listener: &mut L,
-) -> Result<bool, AllocError>
-    requires ready { IsReady context.now }
-    requires named { AreNamed context.now.frames.now.names buffers.old.results.results }
-    ensures effect { IfOk result (RunsItemIn context.now (Recall (suc index)) buffers.old.results buffers.new.results) }
-    ensures kept { IfOk result (λ ok. IsKept ok buffers.old.results buffers.new.results) }
-    ensures heard { IfOk result (λ ok. IsHeard ok L.follows context.now.frames.now context.now.at (Recall (suc index)) buffers.old.results buffers.new.results listener.old listener.new) }
-{
-    if !buffers.results.recall(index)? {
-        return Ok(false);
-    }
-    listener.recall(index)?;
-    Ok(true)
-}
-
 /// Runs one item, by its number, tells the listener, and returns whether it can be done. 0 is a
 /// mark; the numbers from 1 on cite the labels of the table, and those after them recall the
 /// results that were marked.
@@ -196,12 +150,20 @@ pub fn step<L: Listener>(
         → IfOk result (λ ok. IsHeard ok L.follows context.now.frames.now context.now.at (item_of labels number) buffers.old.results buffers.new.results listener.old listener.new) }
 {
     if number == 0 {
-        return mark(context, buffers, listener);
+        if !buffers.results.mark()? {
+            return Ok(false);
+        }
+        listener.mark()?;
+        return Ok(true);
     }
-    let index = number as usize - 1;
-    if index < table.len() {
-        cite_entry(context, table[index], buffers, listener)
-    } else {
-        recall(context, index - table.len(), buffers, listener)
+    let place = number as usize - 1;
+    if place < table.len() {
+        return cite_entry(context, table[place], buffers, listener);
     }
+    let index = place - table.len();
+    if !buffers.results.recall(index)? {
+        return Ok(false);
+    }
+    listener.recall(index)?;
+    Ok(true)
 }

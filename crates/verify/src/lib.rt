@@ -31,5 +31,5 @@ pub use cited::cited_view;
 pub use failure::{Failure, Outcome, first_failure, run};
 pub use listener::Listener;
 pub use plan::{MAX_DEPTH, MAX_NODES, derivation};
-pub use results::{Results, read_off};
+pub use results::Results;
 pub use tree::Tree;

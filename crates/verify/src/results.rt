@@ -380,7 +380,7 @@ fn read_float(
 ///
 /// Errors: an allocation fails. Cost: a step for each hypothesis.
 #[inline(always)]
-pub fn read_off(
+fn read_off(
     images: &mut ImageRanges,
     symbols: &[u32],
     typecodes: &[u32],

@@ -1,4 +1,4 @@
-use Rattle.verify.proofs.Words.{◌-◌, length, arith, ap, ◌∙◌, refl, true, false, of_hypothesis}
+use Rattle.verify.proofs.Words.{arith, refl, true, false, of_hypothesis}
 use Rattle.verify.proofs.StepLemmas.{given-result}
 use Rattle.verify.proofs.WalkLemmas.{hypothesis-heard, assertion-heard, cited-some, assertion-low}
 use Rattle.verify.proofs.citation.cite_entry.Goals as goal

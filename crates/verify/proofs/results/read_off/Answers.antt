@@ -1,4 +1,4 @@
-use Rattle.verify.proofs.Words.{◌≡◌, ℕ, ◌+◌, ◌∙◌, Bool, true, ap, arith, refl, List, sym, SymbolRange, Some, Float, Essential, AreWithin, AreInside, HasSeenEssentialsBefore, ReadTo}
+use Rattle.verify.proofs.Words.{◌≡◌, ℕ, ◌∙◌, Bool, ap, arith, refl, List, sym, SymbolRange, Some, Float, Essential, AreWithin, AreInside, HasSeenEssentialsBefore, ReadTo}
 use Rattle.verify.proofs.ReadImageLemmas.{float-next, other-next, read-whole, mistyped, place-at, place-within, seen-next}
 use Rattle.verify.proofs.results.read_off.Goals.{in-Float+in_ok-read_float-in-Float+else-not-branch, in-Essential}
 use Rattle.verify.proofs.results.read_off.Goals as goal

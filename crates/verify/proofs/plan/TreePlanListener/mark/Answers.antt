@@ -1,5 +1,5 @@
 use Rattle.verify.proofs.Words.{◌≡◌, ◌-◌, length, get_or, refl, arith, ap, ◌∙◌}
-use Rattle.verify.proofs.PlanLemmas.{hears-mark, hears-no-mark}
+use Rattle.verify.proofs.PlanLemmas.{hears-mark}
 use Rattle.verify.proofs.plan.TreePlanListener.mark.Goals as goal
 
 pub returns-in_ok-push : goal.returns-in_ok-push

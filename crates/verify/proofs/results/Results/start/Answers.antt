@@ -1,4 +1,3 @@
-use Rattle.std.proofs.Common.{refl}
 use Rattle.verify.proofs.ResultPlaceLemmas.{cleared-kept}
 use Rattle.verify.proofs.results.Results.start.Goals as goal
 
