@@ -11,7 +11,6 @@ ghost use Rattle.steps.specs.Stored.Drafted.{IsDraft, CanRun, IsItemRecorded};
 use crate::table_draft::{TableDraft, cite_assertion, cite_hypothesis};
 use frame::{FrameBuffers, Frames, Meaning};
 use std::alloc::{AllocError, Global};
-use verify::cited_view;
 
 /// Marks the last result: saves its place.
 ///
@@ -68,7 +67,7 @@ fn cite(
     match frames.meaning(at, position) {
         Meaning::Hypothesis(expr) => cite_hypothesis(alloc, draft, position, expr),
         Meaning::Assertion => {
-            let cited = cited_view(frames, position, buffers)?;
+            let cited = frames.cited_view(position, buffers)?;
             cite_assertion(alloc, draft, position, &cited)
         }
         Meaning::Nothing => unreachable!(),

@@ -111,8 +111,7 @@ impl ProofTable {
 /// expression.
 ///
 /// Errors: an allocation fails. Cost: that of the proof, and of finding each citation among the
-/// steps. There is no limit on the number of steps. If `Frames::whole_view` returns `None` for a
-/// cited assertion, its parts are made at each citation.
+/// steps, and `Frames::cited_view` at each citation. There is no limit on the number of steps.
 /// Source: Metamath, 4.2.6 and appendix B.
 pub fn proof_table(
     alloc: Global,

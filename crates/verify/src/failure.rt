@@ -11,7 +11,7 @@ ghost use Rattle.verify.specs.Stops.{IsFirstFailure, StopsIn};
 use crate::citation::{Buffers, ProofContext, step};
 use crate::label_table::{LabelEntry, fill_table};
 use crate::results::Results;
-use frame::{FrameBuffers, Frames};
+use frame::{FrameBuffers, Frames, PairBuffer};
 use proof_code::Items;
 use std::alloc::{AllocError, Global};
 
@@ -77,6 +77,7 @@ pub fn first_failure(
     fill_table(frames, at, parts.labels, &mut table)?;
     let mut buffers = Buffers {
         frame_buffers: FrameBuffers::new(alloc),
+        pair_buffer: PairBuffer::new(alloc),
         results: Results::new(alloc),
     };
     let pairs = frames.active_pairs(at);

@@ -6,15 +6,15 @@
 //! (the symbols of all that they conclude) within the limit; else it returns `Wrong`. `check` does
 //! so for the items themselves; `first_failure` returns where their run fails.
 //!
-//! Reading order: `answer`, `tree`; `results` (as ranges of one buffer), `label_table`,
-//! `cited`, `citation` (one item), `failure` (all items), `checker` (a whole proof); `plan`
+//! Reading order: `answer`, `tree`; `disjointness`, `results` (as ranges of one buffer),
+//! `label_table`, `citation` (one item), `failure` (all items), `checker` (a whole proof); `plan`
 //! (the derivation); `laws`.
 #![tactic(auto)]
 
 mod answer;
 mod checker;
 mod citation;
-mod cited;
+mod disjointness;
 mod failure;
 mod label_table;
 pub mod laws;
@@ -24,7 +24,6 @@ mod tree;
 
 pub use answer::{Answer, TreeFault};
 pub use checker::{Checker, check};
-pub use cited::cited_view;
 pub use failure::{Failure, first_failure};
 pub use plan::{MAX_DEPTH, MAX_NODES, derivation};
 pub use results::{Results, read_off};
