@@ -68,8 +68,7 @@ fn assertion_fault(
     let mut mandatory = Vec::new(alloc);
     frames.mandatory(cited_at, &mut mandatory)?;
     let mut frame_buffers = FrameBuffers::new(alloc);
-    frames.fill_buffers(cited_at, &mut frame_buffers)?;
-    let cited = frames.buffered_view(cited_at, &frame_buffers);
+    let cited = frames.cited_view(cited_at, &mut frame_buffers)?;
     assertion_view_fault(
         alloc,
         frames,
@@ -176,7 +175,8 @@ fn results_fault(
         return Ok(Some(fault));
     }
     let pairs = frames.active_pairs(at);
-    let violation = find_violation(alloc, &pairs, &images, &cited.groups)?;
+    let groups = frames.groups(cited_at)?;
+    let violation = find_violation(alloc, &pairs, &images, &groups.as_groups())?;
     if let Some(violation) = violation {
         return Ok(Some(ItemFault::NotDisjoint {
             assertion: cited_at,

@@ -8,7 +8,7 @@ ghost use Rattle.proof_pages.specs.BlockInputs.{IsBlockInput};
 use crate::block_input::BlockInput;
 use crate::statement_line::push_statement;
 use entries::Groups;
-use frame::{FrameBuffers, Frames};
+use frame::Frames;
 use mm_read::Stmt;
 use std::alloc::{AllocError, Global};
 
@@ -29,7 +29,7 @@ pub(crate) fn push_frame(
     let mut positions = Vec::new(alloc);
     input.frames.mandatory(input.position, &mut positions)?;
     push_hypotheses(text, input.statements, positions.as_slice())?;
-    push_disjoint(alloc, text, input)
+    push_disjoint(text, input)
 }
 
 /// Appends the statements at these positions.
@@ -63,26 +63,15 @@ fn push_statement_at(
 
 /// Appends a line for each active `$d` at an assertion that has two or more of its mandatory
 /// variables.
-fn push_disjoint(
-    alloc: Global,
-    text: &mut Vec<u8>,
-    input: &BlockInput<'_>,
-) -> Result<(), AllocError>
+fn push_disjoint(text: &mut Vec<u8>, input: &BlockInput<'_>) -> Result<(), AllocError>
     requires input { IsBlockInput input.now }
     requires assertion { IsTrue (is_assertion input.now.statement.now) }
     ensures { OnOk result (text.new.items ≡ text.old.items ++ flat_map group_line
         (mandatory_groups (before (bares input.now.statements.now) input.now.position)
         input.now.statement.now)) }
 {
-    if let Some(view) = input.frames.whole_view(input.position) {
-        return push_groups(text, input.frames, &view.groups);
-    }
-    let mut frame_buffers = FrameBuffers::new(alloc);
-    input
-        .frames
-        .fill_buffers(input.position, &mut frame_buffers)?;
-    let buffered = input.frames.buffered_view(input.position, &frame_buffers);
-    push_groups(text, input.frames, &buffered.groups)
+    let groups = input.frames.groups(input.position)?;
+    push_groups(text, input.frames, &groups.as_groups())
 }
 
 /// Appends a line for each group of variables.

@@ -7,7 +7,6 @@ use crate::page_values::PageValues;
 use crate::partition::{expr_at, partition_essential};
 use crate::rows::push_row_rest;
 use entries::Groups;
-use frame::FrameBuffers;
 use std::alloc::{AllocError, Global};
 
 /// Appends the mandatory hypotheses, the disjoint variables, and a legend: the typecode of each
@@ -21,7 +20,7 @@ pub fn push_frame(
         values.now.contents.now.at s }
 {
     push_hypotheses(alloc, page, values)?;
-    push_disjoint(alloc, page, values)?;
+    push_disjoint(page, values)?;
     push_legend(page, &values.notation)
 }
 
@@ -80,24 +79,13 @@ fn push_hypothesis(
 }
 
 /// Appends the groups of disjoint variables.
-fn push_disjoint(
-    alloc: Global,
-    page: &mut Vec<u8>,
-    values: &PageValues<'_>,
-) -> Result<(), AllocError>
+fn push_disjoint(page: &mut Vec<u8>, values: &PageValues<'_>) -> Result<(), AllocError>
     requires { (s : Statement) × HasAssertion values.now.contents.now.frames.now.statements
         values.now.contents.now.at s }
 {
     let contents = values.contents;
-    if let Some(view) = contents.frames.whole_view(contents.at) {
-        return push_groups(page, &values.notation, &view.groups);
-    }
-    let mut frame_buffers = FrameBuffers::new(alloc);
-    contents
-        .frames
-        .fill_buffers(contents.at, &mut frame_buffers)?;
-    let buffered = contents.frames.buffered_view(contents.at, &frame_buffers);
-    push_groups(page, &values.notation, &buffered.groups)
+    let groups = contents.frames.groups(contents.at)?;
+    push_groups(page, &values.notation, &groups.as_groups())
 }
 
 fn push_groups(

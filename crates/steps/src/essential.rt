@@ -10,7 +10,6 @@ use crate::steps_table::ProofTable;
 use entries::{Hypotheses, Hypothesis};
 use frame::{FrameBuffers, Frames, Meaning};
 use std::alloc::{AllocError, Global};
-use verify::cited_view;
 
 /// Returns those of the taken places that are taken for a `$e`.
 ///
@@ -50,7 +49,7 @@ fn premises_of(
     let position = table.position(place);
     match frames.meaning(at, position) {
         Meaning::Assertion => {
-            let cited = cited_view(frames, position, buffers)?;
+            let cited = frames.cited_view(position, buffers)?;
             premises_among(alloc, &cited.hypotheses, table.taken(place))
         }
         Meaning::Hypothesis(_) => Ok(Vec::new(alloc)),
@@ -147,8 +146,8 @@ fn renumbered(alloc: Global, list: &[usize], numbers: &[usize]) -> Result<Vec<us
 /// that a kept step takes for a `$e`. They are renumbered, and each takes only the steps that it
 /// took for a `$e`.
 ///
-/// Errors: an allocation fails. Cost: the size of the table. If `Frames::whole_view` returns `None`
-/// for a cited assertion, its parts are made twice for each step that cites it.
+/// Errors: an allocation fails. Cost: the size of the table, and that of `Frames::cited_view` twice
+/// for each step that cites an assertion.
 /// Source: Metamath, 4.2.6.
 pub fn essential_table(
     alloc: Global,

@@ -1,5 +1,5 @@
 -- The citation of an assertion when the results are lists of numbers.
-use Rattle.verify.proofs.Words.{◌≡◌, ℕ, ◌-◌, ◌<◌, ◌≤◌, Bool, true, false, List, [], ◌++◌, length, map, get_or, slice_get, Some, sym, ◌∙◌, ap, subst, arith, length-append, length-map, map-append, Name, Stmt, Expr, Database, stmt_at, before, expr_of, is_assertion, is_variable, name_at, decode, HasAssertion, mandatory_groups, Images, applied, CodeImages, code_apply, images_of_names, are_groups_disjoint, Carries, IsInstance, premises, HasLegalProperties, Cite, substitution_over_names, Float, IsWellTyped, IsTyped, AreRead, HypothesesMatch, named, AreNamed, RunsItemByNumber, Results, Cites, of_hypothesis, of_assertion, below, top, Adds, some-same, AreOver, MayCite, HasCited, Assertion, ProofContext, IsViewOf, AssertionView}
+use Rattle.verify.proofs.Words.{◌≡◌, ℕ, ◌-◌, ◌<◌, ◌≤◌, Bool, true, false, List, [], ◌++◌, length, map, get_or, slice_get, Some, sym, ◌∙◌, ap, subst, arith, length-append, length-map, map-append, Name, Stmt, Expr, Database, stmt_at, before, expr_of, is_assertion, is_variable, name_at, decode, HasAssertion, mandatory_groups, Images, applied, CodeImages, code_apply, images_of_names, are_groups_disjoint, Carries, IsInstance, premises, HasLegalProperties, Cite, substitution_over_names, Float, IsWellTyped, IsTyped, AreRead, HypothesesMatch, named, AreNamed, RunsItemByNumber, Results, Cites, of_hypothesis, of_assertion, below, top, Adds, some-same, AreOver, MayCite, HasCited, TellsDisjoint, Assertion, ProofContext, IsViewOf, AssertionView}
 use Rattle.verify.proofs.LabelTableLemmas.{has_with}
 use Rattle.verify.proofs.RequiredHypotheses.{required-lengths}
 use Rattle.verify.proofs.CitingLemmas.{of_variables, apply-τ, disjoint-τ, premises-read, premise-typed, fits-agree, conclusion-agrees, disjoint-agrees, read-over}
@@ -12,7 +12,7 @@ pub record Meets (S : Database) (names : List Name) (at a : ℕ) (c : AssertionV
   pub many : length c.hypotheses ≤ length stack
   pub typed : (k x : ℕ) → slice_get c.hypotheses k ≡ Some (Float x) → IsTyped (get_or c.typecodes.now k 0) (get_or (top (length c.hypotheses) stack) k [])
   pub fits : (ρ : CodeImages) → AreRead c.typecodes.now c.hypotheses (top (length c.hypotheses) stack) ρ → HypothesesMatch S (images_of_names names ρ) c.hypotheses (map (decode names) (top (length c.hypotheses) stack))
-  pub disjoint : (ρ : CodeImages) → AreRead c.typecodes.now c.hypotheses (top (length c.hypotheses) stack) ρ → are_groups_disjoint (before S at) (images_of_names names ρ) (map (decode names) c.groups) ≡ true
+  pub disjoint : (ρ : CodeImages) → AreRead c.typecodes.now c.hypotheses (top (length c.hypotheses) stack) ρ → (s : Stmt) → stmt_at S a ≡ Some s → are_groups_disjoint (before S at) (images_of_names names ρ) (mandatory_groups (before S a) s) ≡ true
   pub gives : (ρ : CodeImages) → AreRead c.typecodes.now c.hypotheses (top (length c.hypotheses) stack) ρ → f ≡ decode names (code_apply ρ c.conclusion.now)
 
 module _ (S : Database) (names : List Name) (at a : ℕ) (s : Stmt) (c : AssertionView) (legal : HasLegalProperties S names) (bound : IsWellTyped S a s) (is : IsViewOf S names a s c) where
@@ -42,7 +42,7 @@ module _ (S : Database) (names : List Name) (at a : ℕ) (s : Stmt) (c : Asserti
         many = many;
         typed = premise-typed S names a s legal.distinct bound c.typecodes.now c.hypotheses is.numbered_hypotheses es count low σ fits.of_variables (sym cut);
         fits = λ ρ read. fits-agree S names a s legal.distinct bound c.typecodes.now c.hypotheses is.numbered_hypotheses es count low σ fits.of_variables (sym cut) ρ read;
-        disjoint = λ ρ read. ap (are_groups_disjoint (before S at) (images_of_names names ρ)) is.groups
+        disjoint = λ ρ read r there. ap (λ u. are_groups_disjoint (before S at) (images_of_names names ρ) (mandatory_groups (before S a) u)) (some-same there fits.stands)
             ∙ (disjoint-agrees S names a s legal.distinct bound c.typecodes.now c.hypotheses is.numbered_hypotheses es count low σ fits.of_variables (sym cut) ρ read (before S at) ∙ fits.disjoint);
         gives = λ ρ read. gives ∙ (conclusion-agrees S names a s legal.distinct bound c.typecodes.now c.hypotheses is.numbered_hypotheses es count low σ fits.of_variables (sym cut) ρ read ∙ sym (conclusion-named ρ));
       }
@@ -61,7 +61,7 @@ module _ (S : Database) (names : List Name) (at a : ℕ) (s : Stmt) (c : Asserti
 
   goes-assertion : (ok : Bool) (old new : Results ℕ) (label : Name) (ρ : CodeImages) → AreNamed names old → Carries S a s label → HasAssertion S a s → a < at
       → n ≤ length old.stack → AreRead c.typecodes.now c.hypotheses (top n old.stack) ρ → HypothesesMatch S (images_of_names names ρ) c.hypotheses (map (decode names) (top n old.stack))
-      → are_groups_disjoint (before S at) (images_of_names names ρ) (map (decode names) c.groups) ≡ true
+      → are_groups_disjoint (before S at) (images_of_names names ρ) (mandatory_groups (before S a) s) ≡ true
       → Adds ok old new (below n old.stack) (code_apply ρ c.conclusion.now)
       → RunsItemByNumber ok S at names (Cite label) old new
   goes-assertion true old new label ρ an carries has earlier many read fits disjoint adds =
@@ -72,7 +72,7 @@ module _ (S : Database) (names : List Name) (at a : ℕ) (s : Stmt) (c : Asserti
       let τ = only (is_variable (before S a)) (images_of_names names ρ) in
       let prem : premises S a s τ ≡ map (decode names) es = premises-read S names a s legal.distinct bound c.typecodes.now c.hypotheses is.numbered_hypotheses es count ρ read fits in
       let away : are_groups_disjoint (before S at) τ (mandatory_groups (before S a) s) ≡ true
-      = disjoint-τ S names a s legal.distinct bound c.typecodes.now c.hypotheses is.numbered_hypotheses es count ρ read (before S at) (mandatory_groups (before S a) s) ∙ (sym (ap (are_groups_disjoint (before S at) (images_of_names names ρ)) is.groups) ∙ disjoint) in
+      = disjoint-τ S names a s legal.distinct bound c.typecodes.now c.hypotheses is.numbered_hypotheses es count ρ read (before S at) (mandatory_groups (before S a) s) ∙ disjoint in
       let whole : map (decode names) old.stack ≡ map (decode names) (below n old.stack) ++ premises S a s τ
       = ap (map (decode names)) (halves n old.stack) ∙ (map-append (decode names) (below n old.stack) es ∙ ap (λ v. map (decode names) (below n old.stack) ++ v) (sym prem)) in
       let gives : decode names e ≡ applied τ (expr_of s) = conclusion-named ρ ∙ sym (apply-τ S names a s legal.distinct bound c.typecodes.now c.hypotheses is.numbered_hypotheses es count ρ read (expr_of s)) in (
@@ -108,11 +108,11 @@ module _ (t : ProofContext) (a : ℕ) (old : Results ℕ) (may : MayCite t a old
 
   pub has-cited : (ok : Bool) (new : Results ℕ) (ρ : CodeImages) → count ≤ length old.stack → AreRead c.typecodes.now c.hypotheses (top count old.stack) ρ
       → HypothesesMatch t.frames.now.statements (images_of_names t.frames.now.names ρ) c.hypotheses (map (decode t.frames.now.names) (top count old.stack))
-      → are_groups_disjoint (before t.frames.now.statements t.at) (images_of_names t.frames.now.names ρ) (map (decode t.frames.now.names) c.groups) ≡ true
+      → TellsDisjoint t a ρ true
       → Adds ok old new (below count old.stack) (code_apply ρ c.conclusion.now) → HasCited t.frames.now.statements t.at t.frames.now.names (Assertion a) old new ok
   has-cited ok new ρ many read fits disjoint adds = λ label is.
       let has = has_with t.frames.now.statements a is.0 may.assertion.0 label is.1 may.assertion.1 in
-      goes-assertion t.frames.now.statements t.frames.now.names t.at a is.0 c may.ready.legal (may.ready.legal.well_typed a is.0 has) (cited is.0 is.1.stands) ok old new label ρ may.named is.1 has may.earlier many read fits disjoint adds
+      goes-assertion t.frames.now.statements t.frames.now.names t.at a is.0 c may.ready.legal (may.ready.legal.well_typed a is.0 has) (cited is.0 is.1.stands) ok old new label ρ may.named is.1 has may.earlier many read fits (sym (disjoint is.0 is.1.stands)) adds
 
   pub not-cited : (new : Results ℕ) → ((f : Expr) → Meets t.frames.now.statements t.frames.now.names t.at a c old.stack f → ⊥) → HasCited t.frames.now.statements t.at t.frames.now.names (Assertion a) old new false
   not-cited new none = λ label is.

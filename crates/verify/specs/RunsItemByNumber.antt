@@ -2,7 +2,7 @@
 -- Metamath, 4.2.6 and appendix B; `Machine` defines the same over names.
 -- The program knows only the numbers of symbols, here called codes; each has a name.
 use Rattle.std.specs.Prelude.{◌≡◌, ℕ, ◌<◌, Bool, true, false, List, length, map, Some}
-use Rattle.verify.specs.Words.{Name, Stmt, Database, before, AllBelow, Item, Cite, decode, HasLegalProperties, HasAssertion, AssertionView, IsViewOf, stmt_at}
+use Rattle.verify.specs.Words.{Name, Stmt, Database, CodeImages, images_of_names, are_groups_disjoint, mandatory_groups, before, AllBelow, Item, Cite, decode, HasLegalProperties, HasAssertion, AssertionView, IsViewOf, stmt_at}
 use Rattle.verify.specs.declared.label_table.LabelEntry.{LabelEntry}
 use Rattle.verify.specs.LabelTable.{AreEntries, IsEntry}
 use Rattle.verify.specs.Machine.{Results, State, RunsItem}
@@ -56,6 +56,12 @@ pub record MayCite (context : ProofContext) (a : ℕ) (st : Results ℕ) : Type 
 abbrev pub IsCitedView : ProofContext → ℕ → AssertionView → Type 0
 IsCitedView context a c =
     (s : Stmt) → stmt_at context.frames.now.statements a ≡ Some s → IsViewOf context.frames.now.statements context.frames.now.names a s c
+
+-- `ok` says whether the images are disjoint by the groups of the assertion at a
+abbrev pub TellsDisjoint : ProofContext → ℕ → CodeImages → Bool → Type 0
+TellsDisjoint context a ρ ok =
+    (s : Stmt) → stmt_at context.frames.now.statements a ≡ Some s
+    → ok ≡ are_groups_disjoint (before context.frames.now.statements context.at) (images_of_names context.frames.now.names ρ) (mandatory_groups (before context.frames.now.statements a) s)
 
 -- in the context of a proof, the meaning of a label
 abbrev pub IsEntryIn : ProofContext → Name → LabelEntry → Type 0

@@ -6,7 +6,8 @@ pub use Rattle.frame.specs.AssertionView.{IsViewOf, typecode_of}
 pub use Rattle.frame.specs.AtPosition.{HasLegalProperties, HasSingleResults}
 pub use Rattle.frame.specs.Below.{AllBelow}
 pub use Rattle.frame.specs.Citations.{Carries, IsHypothesis, IsInstance, expr_at, premises}
-pub use Rattle.frame.specs.FrameOf.{HasAssertion, hypotheses}
+pub use Rattle.frame.specs.Disjoint.{are_groups_disjoint}
+pub use Rattle.frame.specs.FrameOf.{HasAssertion, hypotheses, mandatory_groups}
 pub use Rattle.frame.specs.Parts.{Numbered}
 pub use Rattle.frame.specs.Substitution.{CodeImages, Images, apply as applied, code_image, images_of_names}
 pub use Rattle.mm_lex.specs.Alphabet.{Name}

@@ -15,7 +15,7 @@ use crate::failure::run_items;
 use crate::label_table::{LabelEntry, add_listed, fill_mandatory, fill_table};
 use crate::listener::Silent;
 use crate::results::Results;
-use frame::{FrameBuffers, Frames};
+use frame::{FrameBuffers, Frames, PairBuffer};
 use mm_lex::Words;
 use proof_code::{CodeFault, Items, Reader, is_compressed, normal};
 use std::alloc::{AllocError, Global};
@@ -54,6 +54,7 @@ impl Checker {
             mandatory: Vec::new(alloc),
             buffers: Buffers {
                 frame_buffers: FrameBuffers::new(alloc),
+                pair_buffer: PairBuffer::new(alloc),
                 results: Results::new(alloc),
             },
         }
@@ -94,7 +95,7 @@ impl Checker {
     /// Cost: each label is looked up once; a recall and a mark are one step; a citation costs the
     /// lengths of its result and of the results that it compares with a `$e`, and that of the
     /// disjoint variable condition; if the parts of the assertion are not stored whole, also that
-    /// of `Frames::fill_buffers`. Source: Metamath, 4.2.6 and appendix B.
+    /// of `Frames::cited_view`. Source: Metamath, 4.2.6 and appendix B.
     pub fn check(&mut self, frames: &Frames, at: usize, items: &Items) -> Result<Answer, AllocError>
         requires provable { (s : Statement) × IsProvable frames.now.statements at s }
         ensures answer { IfOk result (λ answer. IsAnswerTo answer (IsRight frames.now.statements at items.now)) }

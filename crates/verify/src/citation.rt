@@ -1,20 +1,20 @@
 //! Runs one item of a proof, and tells a listener.
 
-ghost use Rattle.std.specs.Prelude.{List, IfOk};
+ghost use Rattle.std.specs.Prelude.{◌≡◌, List, IfOk};
 ghost use Rattle.mm_lex.specs.Alphabet.{Name};
 ghost use Rattle.proof_code.specs.declared.item.Item.TheVariants.{Cite};
 ghost use Rattle.proof_code.specs.ItemNumbers.{item_of};
 ghost use Rattle.verify.specs.RunsItemByNumber.{AreEntriesIn, IsEntryIn, IsReady, MayCite, IsCitedView};
-ghost use Rattle.verify.specs.RunsItemByNumber.{AreNamed, HasCitedIn, RunsItemIn};
+ghost use Rattle.subst.specs.Images.{AreOver};
+ghost use Rattle.verify.specs.RunsItemByNumber.{AreNamed, HasCitedIn, RunsItemIn, TellsDisjoint};
 ghost use Rattle.verify.specs.ResultPlaces.{IsKept};
 ghost use Rattle.verify.specs.Walk.{IsHeard};
 
-use crate::cited::cited_view;
 use crate::label_table::LabelEntry;
 use crate::listener::Listener;
 use crate::results::Results;
 use entries::AssertionView;
-use frame::{FrameBuffers, Frames, Pairs};
+use frame::{FrameBuffers, Frames, PairBuffer, Pairs};
 use std::alloc::AllocError;
 
 /// The context of a proof: the statements, the position of its `$p`, and the pairs of disjoint
@@ -32,8 +32,10 @@ pub struct ProofContext<'a> {
 /// The buffers of a run over the items of a proof.
 #[derive(Drop)]
 pub struct Buffers {
-    /// For the parts of a cited assertion that are not stored whole.
+    /// For the hypotheses of a cited assertion whose parts are not kept whole.
     pub frame_buffers: FrameBuffers,
+    /// For its mandatory pairs.
+    pub pair_buffer: PairBuffer,
     /// The results of the proof so far.
     pub results: Results,
 }
@@ -47,6 +49,7 @@ fn cite_by_view(
     context: &ProofContext<'_>,
     position: usize,
     cited: &AssertionView<'_>,
+    pair_buffer: &mut PairBuffer,
     results: &mut Results,
 ) -> Result<bool, AllocError>
     requires may { MayCite context.now position results.old.results }
@@ -64,10 +67,36 @@ fn cite_by_view(
     if !results.hypotheses_match(context.frames, &cited.hypotheses, has_essentials) {
         return Ok(false);
     }
-    if !results.are_disjoint(&context.pairs, &cited.groups)? {
+    if !are_images_disjoint(context, position, cited, pair_buffer, results)? {
         return Ok(false);
     }
     results.apply(count, cited.conclusion)
+}
+
+/// Returns whether the images that were read are disjoint by the mandatory pairs of an assertion,
+/// given a view of it. All pairs are read, also behind one that fails.
+///
+/// Errors: an allocation fails.
+#[inline(always)]
+fn are_images_disjoint(
+    context: &ProofContext<'_>,
+    position: usize,
+    cited: &AssertionView<'_>,
+    pair_buffer: &mut PairBuffer,
+    results: &mut Results,
+) -> Result<bool, AllocError>
+    requires may { MayCite context.now position results.old.results }
+    requires cited { IsCitedView context.now position cited.now }
+    requires over { AreOver context.now.frames.now.names results.old.images }
+    ensures same { results.new ≡ results.old }
+    ensures disjoint { IfOk result (TellsDisjoint context.now position results.old.images) }
+{
+    if cited.pairs_listed {
+        return results.are_disjoint(&context.pairs, &cited.pairs);
+    }
+    pair_buffer.begin(&cited.hypotheses)?;
+    let cited_pairs = context.frames.active_pairs(position);
+    results.are_made_disjoint(&context.pairs, &cited_pairs, pair_buffer)
 }
 
 /// Cites an assertion: pops the results for its hypotheses and pushes its result. Returns `false`
@@ -84,8 +113,16 @@ fn cite(
     ensures effect { IfOk result (HasCitedIn context.now (LabelEntry.Assertion position) buffers.old.results buffers.new.results) }
     ensures kept { IfOk result (λ ok. IsKept ok buffers.old.results buffers.new.results) }
 {
-    let cited = cited_view(context.frames, position, &mut buffers.frame_buffers)?;
-    cite_by_view(context, position, &cited, &mut buffers.results)
+    let cited = context
+        .frames
+        .cited_view(position, &mut buffers.frame_buffers)?;
+    cite_by_view(
+        context,
+        position,
+        &cited,
+        &mut buffers.pair_buffer,
+        &mut buffers.results,
+    )
 }
 
 /// Cites a label by its meaning, and tells the listener. Returns `false` if it cannot be cited.

@@ -15,7 +15,7 @@ use crate::citation::{Buffers, ProofContext, step};
 use crate::label_table::{LabelEntry, fill_table};
 use crate::listener::{Listener, Silent};
 use crate::results::Results;
-use frame::{FrameBuffers, Frames};
+use frame::{FrameBuffers, Frames, PairBuffer};
 use proof_code::Items;
 use std::alloc::{AllocError, Global};
 
@@ -88,6 +88,7 @@ pub fn run<L: Listener>(
     fill_table(frames, at, parts.labels, &mut table)?;
     let mut buffers = Buffers {
         frame_buffers: FrameBuffers::new(alloc),
+        pair_buffer: PairBuffer::new(alloc),
         results: Results::new(alloc),
     };
     let pairs = frames.active_pairs(at);

@@ -8,15 +8,15 @@
 //!
 //! One run goes over the items (`failure::run_items`) and tells a `Listener` of each that was done.
 //!
-//! Reading order: `answer`, `tree`; `results` (as ranges of one buffer), `label_table`, `listener`,
-//! `cited`, `citation` (one item), `failure` (all items), `checker` (a whole proof); `plan`
-//! (a listener that makes the derivation); `laws`.
+//! Reading order: `answer`, `tree`; `disjointness`, `results` (as ranges of one buffer),
+//! `label_table`, `listener`, `citation` (one item), `failure` (all items), `checker` (a whole
+//! proof); `plan` (a listener that makes the derivation); `laws`.
 #![tactic(auto)]
 
 mod answer;
 mod checker;
 mod citation;
-mod cited;
+mod disjointness;
 mod failure;
 mod label_table;
 pub mod laws;
@@ -27,7 +27,6 @@ mod tree;
 
 pub use answer::{Answer, TreeFault};
 pub use checker::{Checker, check};
-pub use cited::cited_view;
 pub use failure::{Failure, Outcome, first_failure, run};
 pub use listener::Listener;
 pub use plan::{MAX_DEPTH, MAX_NODES, derivation};

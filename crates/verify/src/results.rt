@@ -2,11 +2,13 @@
 
 ghost use Rattle.std.specs.Prelude.{take, List, ℕ, suc, ◌≡◌, ◌<◌, ◌≤◌, ◌↔◌, ◌∷◌, ◌++◌, [], length, slice_get, nat_eq, ◌==◌, Some, is_some, if◌then◌else◌, IfOk, IfSome, OnOk, OnErr, IsTrue};
 ghost use Rattle.frame.specs.AtPosition.{HasLegalProperties};
-ghost use Rattle.frame.specs.Below.{AllBelow};
+ghost use Rattle.frame.specs.Below.{AllBelow, AreBelow};
+ghost use Rattle.frame.specs.ListsOfPairs.{is_numbered_pair};
+ghost use Rattle.frame.specs.MandatoryPairs.{pair_lists};
 ghost use Rattle.frame.specs.Substitution.{code_apply};
 ghost use Rattle.names.specs.Codes.{AreDistinct};
 ghost use Rattle.std.specs.Map.{lookup};
-ghost use Rattle.subst.specs.Images.{AreOver, are_numbered_groups_disjoint};
+ghost use Rattle.subst.specs.Images.{AreOver, are_numbered_lists_disjoint};
 ghost use Rattle.subst.specs.SymbolRanges.{AreInside, AreWithin};
 ghost use Rattle.verify.specs.HypothesisResults.{AreDifferent, ArePresent, HasSeenEssentials, LastResultsMatch, Reads};
 ghost use Rattle.verify.specs.ReadPlaces.{BeginsWith, ReadsAll, tail_of};
@@ -14,8 +16,9 @@ ghost use Rattle.verify.specs.ResultPlaces.{Adds, IsKept, Marks, Recalls, below,
 ghost use Rattle.verify.specs.Right.{weight_limit};
 ghost use Rattle.verify.specs.Walk.{IsLastRange};
 
+use crate::disjointness::{are_lists_disjoint, are_made_lists_disjoint};
 use entries::{Groups, Hypotheses, Hypothesis};
-use frame::{Frames, Pairs};
+use frame::{Frames, PairBuffer, Pairs};
 use std::alloc::{AllocError, Global};
 use std::marker::Model;
 use subst::{
@@ -207,24 +210,56 @@ impl Results {
         true
     }
 
-    /// Returns whether the images of each two variables of each group are disjoint at the statement
-    /// of the pairs.
+    /// Returns whether the images are disjoint by these lists of pairs, at the statement of the
+    /// pairs: the image of the first variable of each list from those of the others.
     ///
-    /// Errors: an allocation fails. Cost: that of `DisjointImages::are_groups_disjoint`.
+    /// Errors: an allocation fails. Cost: that of `disjointness::are_lists_disjoint`.
     #[inline(always)]
     pub fn are_disjoint(
         &mut self,
         pairs: &Pairs<'_>,
-        groups: &Groups<'_>,
+        lists: &Groups<'_>,
     ) -> Result<bool, AllocError>
         requires distinct { AreDistinct pairs.now.names }
         requires over { AreOver pairs.now.names self.old.images }
-        requires below { AllBelow (length pairs.now.names) groups.now }
+        requires below { AllBelow (length pairs.now.names) lists.now }
         ensures same { self.new ≡ self.old }
-        ensures disjoint { IfOk result (λ ok. ok ≡ are_numbered_groups_disjoint pairs.now self.old.images groups.now) }
+        ensures disjoint { IfOk result (λ ok. ok ≡ are_numbered_lists_disjoint pairs.now self.old.images lists.now) }
     {
-        self.disjoint_images
-            .are_groups_disjoint(pairs, groups, &self.symbols, &self.images)
+        are_lists_disjoint(
+            &mut self.disjoint_images,
+            pairs,
+            self.symbols.as_slice(),
+            &self.images,
+            lists,
+        )
+    }
+
+    /// Returns whether the images are disjoint by the mandatory pairs of an assertion, whose lists
+    /// are made one by one: `cited` has the pairs there, and `made` its variables.
+    ///
+    /// Errors: an allocation fails. Cost: that of `disjointness::are_made_lists_disjoint`.
+    pub fn are_made_disjoint(
+        &mut self,
+        pairs: &Pairs<'_>,
+        cited: &Pairs<'_>,
+        made: &mut PairBuffer,
+    ) -> Result<bool, AllocError>
+        requires distinct { AreDistinct pairs.now.names }
+        requires over { AreOver pairs.now.names self.old.images }
+        requires names { cited.now.names ≡ pairs.now.names }
+        requires below { AreBelow (length pairs.now.names) made.old.variables }
+        ensures same { self.new ≡ self.old }
+        ensures disjoint { IfOk result (λ ok. ok ≡ are_numbered_lists_disjoint pairs.now self.old.images (pair_lists (is_numbered_pair cited.now) [] made.old.variables)) }
+    {
+        are_made_lists_disjoint(
+            &mut self.disjoint_images,
+            pairs,
+            self.symbols.as_slice(),
+            &self.images,
+            cited,
+            made,
+        )
     }
 
     /// Pops the last `count` results and pushes the expression with the images substituted, or

@@ -18,7 +18,7 @@ first_mismatch-requires-clause-images c =
 pub find_violation-requires-clause-groups : goal.find_violation-requires-clause-groups
 find_violation-requires-clause-groups c =
     let s = c.requires.assertion.0 in let e = c.requires.assertion.1.0 in
-    subst (λ ns. AllBelow (length ns) c.args.cited.now.groups) (sym c.active_pairs-pairs.ensures.names) (c.requires.cited s e).groups_below
+    subst (AllBelow (length c.active_pairs-pairs.result.names)) (sym c.as_groups.ensures) (subst (λ ns. AllBelow (length ns) c.in_ok-groups.groups) (sym c.active_pairs-pairs.ensures.names) (c.in_ok-groups.ensures s e).below)
 
 pub find_violation-requires-clause-images : goal.find_violation-requires-clause-images
 find_violation-requires-clause-images c =
@@ -60,7 +60,7 @@ returns-in-Some-violation c s e =
     let are = images_are S names ps c.args.cited.now.typecodes.now c.args.cited.now.hypotheses (codes c.args.results.now) cited.numbered_hypotheses in
     let pn = c.active_pairs-pairs.ensures.names in
     let images = ap (λ ns. named_images ns (code_images c.in_ok-images.images)) pn ∙ (ap (named_images names) is ∙ (are.0 ∙ ap (images_read S ps) (named-codes names c.args.results.now))) in
-    let groups = ap (λ ns. map (decode ns) c.args.cited.now.groups) pn ∙ cited.groups in
+    let groups = ap (map (decode c.active_pairs-pairs.result.names)) c.as_groups.ensures ∙ (ap (λ ns. map (decode ns) c.in_ok-groups.groups) pn ∙ (c.in_ok-groups.ensures s e).named) in
     (refl, rw c.in_default.is at (c.in_ok-fault.ensures s e), violation_moved c.active_pairs-pairs.ensures.statements pn images groups c.in-Some-violation.violation (rw c.in-Some-violation.is at c.in_ok-violation.ensures))
 
 pub returns : goal.returns
@@ -72,7 +72,7 @@ returns c s e =
     let pn = c.active_pairs-pairs.ensures.names in
     let read = are.0 ∙ ap (images_read S ps) (named-codes names c.args.results.now) in
     let images = ap (λ ns. named_images ns (code_images c.in_ok-images.images)) pn ∙ (ap (named_images names) is ∙ read) in
-    let groups = ap (λ ns. map (decode ns) c.args.cited.now.groups) pn ∙ cited.groups in
+    let groups = ap (map (decode c.active_pairs-pairs.result.names)) c.as_groups.ensures ∙ (ap (λ ns. map (decode ns) c.in_ok-groups.groups) pn ∙ (c.in_ok-groups.ensures s e).named) in
     record {
       fit = rw c.in_default.is at (c.in_ok-fault.ensures s e);
       disjoint = disjoint_moved c.active_pairs-pairs.ensures.statements pn images groups (rw c.in_default-violation.is at c.in_ok-violation.ensures);

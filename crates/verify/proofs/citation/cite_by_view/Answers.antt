@@ -1,4 +1,4 @@
-use Rattle.verify.proofs.Words.{◌≡◌, ℕ, ◌<◌, ◌↔◌, Bool, true, false, is_some, IsTrue, List, length, map, arith, sym, ap, ◌∙◌, subst, IfOk-weaker, Name, Database, AreDistinct, decode, AllBelow, are_groups_disjoint, CodeImages, images_of_names, AreOver, Hypothesis, Reads, HypothesesMatch, Results, below, top, Adds}
+use Rattle.verify.proofs.Words.{MayCite, ◌≡◌, ℕ, ◌<◌, ◌↔◌, Bool, true, false, is_some, IsTrue, List, length, map, arith, sym, ap, ◌∙◌, subst, IfOk-weaker, Name, Database, AreDistinct, decode, AllBelow, are_groups_disjoint, CodeImages, images_of_names, AreOver, Hypothesis, Reads, HypothesesMatch, Results, below, top, Adds}
 use Rattle.verify.proofs.RequiredHypotheses.{required-lengths, required-different, required-standing}
 use Rattle.verify.proofs.CitationLemmas.{over-read, has-cited, not-cited}
 use Rattle.verify.proofs.ResultPlaceLemmas.{kept-as}
@@ -7,11 +7,6 @@ use Rattle.verify.proofs.citation.cite_by_view.Goals as goal
 -- a fact about one flag holds of a flag that is equal to it
 reads-as : (ok b : Bool) (typecodes : List ℕ) (hs : List Hypothesis) (rs : List (List ℕ)) (σ : CodeImages) → ok ≡ b → Reads ok typecodes hs rs σ → Reads b typecodes hs rs σ
 reads-as ok b typecodes hs rs σ e r = subst (λ v. Reads v typecodes hs rs σ) e r
-
-disjoint-by : (result : Bool) (D E : Database) (m n : List Name) (σ : CodeImages) (gs : List (List ℕ)) (b : Bool) → D ≡ E → m ≡ n → result ≡ are_groups_disjoint D (images_of_names m σ) (map (decode m) gs) → result ≡ b
-    → are_groups_disjoint E (images_of_names n σ) (map (decode n) gs) ≡ b
-disjoint-by result D E m n σ gs b p q e f =
-    ap (λ v. are_groups_disjoint v (images_of_names n σ) (map (decode n) gs)) (sym p) ∙ (ap (λ v. are_groups_disjoint D (images_of_names v σ) (map (decode v) gs)) (sym q) ∙ (sym e ∙ f))
 
 fit-as : (b : Bool) (S : Database) (names : List Name) (σ : CodeImages) (hs : List Hypothesis) (stack stack' : List (List ℕ)) → stack ≡ stack'
     → IsTrue b ↔ HypothesesMatch S (images_of_names names σ) hs (map (decode names) (top (length hs) stack)) → IsTrue b ↔ HypothesesMatch S (images_of_names names σ) hs (map (decode names) (top (length hs) stack'))
@@ -32,8 +27,11 @@ hypotheses_match-requires-clause-present c = required-standing _ _ _ _ _ (c.requ
 pub hypotheses_match-requires-clause-over : goal.hypotheses_match-requires-clause-over
 hypotheses_match-requires-clause-over c = over-read _ _ _ c.requires.may c.args.cited.now c.requires.cited c.read_images.new.self.images (let h = c.if-count-len.false in omega (arith, h, c.len.ensures)) (reads-as _ true _ _ _ _ (ap is_some c.in-Some.is) c.in_ok-has_essentials.ensures.read)
 
-pub are_disjoint-requires-clause-over : goal.are_disjoint-requires-clause-over
-are_disjoint-requires-clause-over c = subst (λ v. AreOver v c.read_images.new.self.images) (sym c.requires.may.ready.names) (over-read _ _ _ c.requires.may c.args.cited.now c.requires.cited c.read_images.new.self.images (let h = c.if-count-len.false in omega (arith, h, c.len.ensures)) (reads-as _ true _ _ _ _ (ap is_some c.in-Some.is) c.in_ok-has_essentials.ensures.read))
+pub are_images_disjoint-requires-clause-may : goal.are_images_disjoint-requires-clause-may
+are_images_disjoint-requires-clause-may c = subst (MayCite c.args.context.now c.args.position) (sym c.in_ok-has_essentials.ensures.same) c.requires.may
+
+pub are_images_disjoint-requires-clause-over : goal.are_images_disjoint-requires-clause-over
+are_images_disjoint-requires-clause-over c = over-read _ _ _ c.requires.may c.args.cited.now c.requires.cited c.read_images.new.self.images (let h = c.if-count-len.false in omega (arith, h, c.len.ensures)) (reads-as _ true _ _ _ _ (ap is_some c.in-Some.is) c.in_ok-has_essentials.ensures.read)
 
 pub returns-then-count-len-clause-effect : goal.returns-then-count-len-clause-effect
 returns-then-count-len-clause-effect c =
@@ -52,21 +50,15 @@ returns-then-not-hypotheses_match-clause-effect c =
 
 pub returns-then-not-branch-clause-effect : goal.returns-then-not-branch-clause-effect
 returns-then-not-branch-clause-effect c =
-    not-cited _ _ _ c.requires.may c.args.cited.now c.requires.cited c.are_disjoint.new.self.results
-    (λ f m. (let e : true ≡ false = sym (m.disjoint c.read_images.new.self.images (reads-as _ true _ _ _ _ (ap is_some c.in-Some.is) c.in_ok-has_essentials.ensures.read)) ∙ disjoint-by _ _ _ _ _ c.read_images.new.self.images c.args.cited.now.groups _ c.requires.may.ready.active c.requires.may.ready.names c.in_ok-are_disjoint.ensures.disjoint c.if-not-branch.true in cc))
+    not-cited _ _ _ c.requires.may c.args.cited.now c.requires.cited c.are_images_disjoint.new.results.results
+    (λ f m. (let e : true ≡ false = sym (m.disjoint c.read_images.new.self.images (reads-as _ true _ _ _ _ (ap is_some c.in-Some.is) c.in_ok-has_essentials.ensures.read) c.requires.may.assertion.0 c.requires.may.assertion.1.0) ∙ (sym (c.in_ok-are_images_disjoint.ensures.disjoint c.requires.may.assertion.0 c.requires.may.assertion.1.0) ∙ c.if-not-branch.true) in cc))
 
 pub returns-clause-effect : goal.returns-clause-effect
 returns-clause-effect c =
     IfOk-weaker c.apply.result _ _
     (λ ok adds. has-cited _ _ _ c.requires.may c.args.cited.now c.requires.cited ok _ c.read_images.new.self.images (let h = c.if-count-len.false in omega (arith, h, c.len.ensures)) (reads-as _ true _ _ _ _ (ap is_some c.in-Some.is) c.in_ok-has_essentials.ensures.read) ((fit-as _ _ _ _ _ _ _ (ap (λ (v : Results ℕ). v.stack) c.in_ok-has_essentials.ensures.same) c.hypotheses_match.ensures).0 c.if-not-hypotheses_match.false)
-    (disjoint-by _ _ _ _ _ c.read_images.new.self.images c.args.cited.now.groups _ c.requires.may.ready.active c.requires.may.ready.names c.in_ok-are_disjoint.ensures.disjoint c.if-not-branch.false)
-    (adds-as ok c.read_images.new.self.results _ _ _ _ _ c.in_ok-has_essentials.ensures.same c.len-count.ensures adds)) (rw c.are_disjoint.ensures.same at c.apply.ensures.adds)
-
-pub are_disjoint-requires-clause-below : goal.are_disjoint-requires-clause-below
-are_disjoint-requires-clause-below c = subst (λ ns. AllBelow (length ns) c.args.cited.now.groups) (sym c.requires.may.ready.names) (c.requires.cited c.requires.may.assertion.0 c.requires.may.assertion.1.0).groups_below
-
-pub are_disjoint-requires-clause-distinct : goal.are_disjoint-requires-clause-distinct
-are_disjoint-requires-clause-distinct c = subst AreDistinct (sym c.requires.may.ready.names) c.requires.may.ready.legal.distinct
+    (λ s h. sym c.if-not-branch.false ∙ c.in_ok-are_images_disjoint.ensures.disjoint s h)
+    (adds-as ok c.read_images.new.self.results _ _ _ _ _ c.in_ok-has_essentials.ensures.same c.len-count.ensures adds)) (rw c.in_ok-are_images_disjoint.ensures.same at c.apply.ensures.adds)
 
 pub returns-clause-kept : goal.returns-clause-kept
-returns-clause-kept c = IfOk-weaker c.apply.result _ _ (λ ok. kept-as ok _ _ _ c.in_ok-has_essentials.ensures.same c.in_ok-has_essentials.ensures.symbols) (rw c.are_disjoint.ensures.same at c.apply.ensures.kept)
+returns-clause-kept c = IfOk-weaker c.apply.result _ _ (λ ok. kept-as ok _ _ _ c.in_ok-has_essentials.ensures.same c.in_ok-has_essentials.ensures.symbols) (rw c.in_ok-are_images_disjoint.ensures.same at c.apply.ensures.kept)
