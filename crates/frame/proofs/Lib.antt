@@ -22,6 +22,7 @@ pub mod ActiveDisjointLemmas
 pub mod MakeLemmas
 pub mod PairListLemmas
 pub mod PairLawLemmas
+pub mod PairDisjointLemmas
 pub mod AssertionLemmas
 pub mod AssertionViewLemmas
 pub mod GroupsLemmas

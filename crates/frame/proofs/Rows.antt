@@ -1,5 +1,5 @@
 -- Examples of frames.
-use Rattle.frame.proofs.Words.{◌≡◌, [], ◌∷◌, codes, refl, true, false, frame_of, is_pair, before, w, demo_before, demo_mp, demo, rows_front, row_ax, row_seven, row_th}
+use Rattle.frame.proofs.Words.{are_together, pairs_by, ◌≡◌, [], ◌∷◌, codes, refl, true, false, frame_of, is_pair, before, w, demo_before, demo_mp, demo, rows_front, row_ax, row_seven, row_th}
 use Rattle.mm_read.specs.declared.stmt.Stmt.TheVariants.{Axiom}
 
 -- `mp` has the `$f` of P and Q and both `$e`
@@ -37,3 +37,7 @@ th_pairs = refl
 -- the `$d` of the open block makes the dummy variable z and x disjoint
 th_dummy : is_pair row_seven (codes "z") (codes "x") ≡ true
 th_dummy = refl
+
+-- of 1, 2 and 3, all pairs but that of 1 and 3, by two lists
+three_lists : pairs_by (are_together ((1 ∷ 2 ∷ []) ∷ (3 ∷ 2 ∷ []) ∷ (1 ∷ 2 ∷ []) ∷ [])) (1 ∷ 2 ∷ 3 ∷ []) ≡ (2 ∷ 1 ∷ []) ∷ (3 ∷ 2 ∷ []) ∷ []
+three_lists = refl

@@ -1,7 +1,7 @@
 use Rattle.verify.proofs.Words.{[], refl, list_all, Name, has_name, CodeImages, ◌≡◌, ℕ, zero, suc, ◌≤◌, List, Bool, length, arith, sym, ◌∙◌, ap, subst, slice_get, slice_get_within, Some, IfOk-weaker, Stmt, Database, before, stmt_at, decode, is_numbered_pair, float_variables, pair_lists, images_of_names, mandatory_groups, are_groups_disjoint, are_numbered_lists_disjoint, AllBelow, AreBelow, AreDistinct, AreOver, TellsDisjoint}
 use Rattle.frame.specs.Disjoint.{is_list_disjoint}
 use Rattle.frame.specs.FrameOf.{is_mandatory}
-use Rattle.frame.proofs.PairListLemmas.{kept-groups, made-groups}
+use Rattle.frame.proofs.PairDisjointLemmas.{kept-decide, made-decide}
 use Rattle.verify.proofs.citation.are_images_disjoint.Goals as goal
 
 stands-within : (S : Database) (a : ℕ) (s : Stmt) → stmt_at S a ≡ Some s → (1 ≤ a) × (a ≤ length S)
@@ -36,7 +36,7 @@ returns-then-cited-clause-disjoint c =
     (λ ok e s h.
     let is = c.requires.cited s h in
     e ∙ (same-test ρ t.pairs.statements (before S t.at) t.pairs.names names view.pairs c.requires.may.ready.active c.requires.may.ready.names
-    ∙ kept-groups (before S t.at) (images_of_names names ρ) names (record { statements = before S a; names = names }) s view.hypotheses view.pairs refl is.variables.mandatory (is.pairs c.if-cited.true)))
+    ∙ kept-decide (before S t.at) (images_of_names names ρ) names (record { statements = before S a; names = names }) s view.hypotheses view.pairs refl is.variables.mandatory (is.pairs c.if-cited.true)))
     c.are_disjoint.ensures.disjoint
 
 pub active_pairs-cited_pairs-requires : goal.active_pairs-cited_pairs-requires
@@ -71,7 +71,7 @@ returns-clause-disjoint c =
     (λ ok e s h.
     let is = c.requires.cited s h in
     e ∙ (same-test ρ t.pairs.statements (before S t.at) t.pairs.names names (pair_lists (is_numbered_pair v) [] vs) c.requires.may.ready.active c.requires.may.ready.names
-    ∙ (made-groups (before S t.at) τ names v s vs c.active_pairs-cited_pairs.ensures.names
+    ∙ (made-decide (before S t.at) τ names v s vs c.active_pairs-cited_pairs.ensures.names
     (λ x. ap (λ l. has_name x (decode names l)) c.in_ok-begin.ensures ∙ (is.variables.mandatory x ∙ ap (λ A. is_mandatory A s x) (sym c.active_pairs-cited_pairs.ensures.statements)))
     ∙ ap (λ A. are_groups_disjoint (before S t.at) τ (mandatory_groups A s)) c.active_pairs-cited_pairs.ensures.statements)))
     c.are_made_disjoint.ensures.disjoint

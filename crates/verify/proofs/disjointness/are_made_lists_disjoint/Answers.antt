@@ -1,5 +1,6 @@
 use Rattle.verify.proofs.Words.{◌≡◌, ◌&&◌, List, ℕ, [], length, take, take_all, arith, sym, ◌∙◌, ap, subst, list_all, list_all_more, get_or_from_slice_get, slice_get_within, below-group, images_at, images_of_names, is_numbered_pair, is_numbered_list_disjoint, pair_lists, AreBelow, IsPairList}
-use Rattle.frame.proofs.PairListLemmas.{list-below, list-disjoint, pair-lists-below, pair-lists-length}
+use Rattle.frame.proofs.PairDisjointLemmas.{list-disjoint}
+use Rattle.frame.proofs.PairListLemmas.{list-below, pair-lists-below, pair-lists-length}
 use Rattle.verify.proofs.disjointness.are_made_lists_disjoint.Goals as goal
 use Rattle.verify.proofs.disjointness.are_made_lists_disjoint.Goals.{In_ok-fill}
 
