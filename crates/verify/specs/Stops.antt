@@ -46,7 +46,8 @@ IsFirstFailure S at names items (failure.End results) =
 -- the items are a right proof, and the stack is the statement's expression alone; or they are not,
 -- and fail here
 abbrev pub IsOutcome : Database → ℕ → List Name → List Item → Outcome → Type 0
-IsOutcome S at names items (outcome.Right results) = IsRight S at items × ((s : Stmt) → stmt_at S at ≡ Some s → map (decode names) results.results.stack ≡ expr_of s ∷ [])
+IsOutcome S at names items (outcome.Right results) =
+    IsRight S at items × ((s : Stmt) → stmt_at S at ≡ Some s → map (decode names) results.results.stack ≡ expr_of s ∷ [])
 IsOutcome S at names items (outcome.Failed fails) = (IsRight S at items → ⊥) × IsFirstFailure S at names items fails
 
 -- if the proof is right, the listener follows the walk over all items

@@ -9,6 +9,7 @@ use Rattle.verify.specs.LabelTable.{IsEntry}
 use Rattle.verify.specs.Machine.{Results, RunsItem}
 use Rattle.verify.specs.ResultPlaces.{HeldResults}
 use Rattle.verify.specs.RunsItemByNumber.{named, AreNamed}
+use Rattle.verify.specs.declared.citation.ProofContext.{ProofContext}
 
 -- the items of a proof at `at` that were done, the results, and the symbols that they are ranges of
 pub record Walk : Type 0 where
@@ -85,3 +86,8 @@ Hears {L} follows is_told old new =
 abbrev pub IsHeard : {L : Type 0} → Bool → (Walk → L → Type 0) → Numbered → ℕ → Item → HeldResults → HeldResults → L → L → Type 0
 IsHeard true follows f at item held held' old new = (items : List Item) → follows (walk f at items held) old → follows (walk f at (items ++ item ∷ []) held') new
 IsHeard false follows f at item held held' old new = new ≡ old
+
+-- in the context of a proof, the item was done, and a listener that followed the walk follows it
+-- after the item; or it was not done, and the listener was told nothing
+abbrev pub IsHeardIn : {L : Type 0} → (Walk → L → Type 0) → ProofContext → Item → HeldResults → HeldResults → L → L → Bool → Type 0
+IsHeardIn follows context item held held' old new ok = IsHeard ok follows context.frames.now context.at item held held' old new

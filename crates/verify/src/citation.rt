@@ -8,7 +8,7 @@ ghost use Rattle.verify.specs.RunsItemByNumber.{AreEntriesIn, IsEntryIn, IsReady
 ghost use Rattle.subst.specs.Images.{AreOver};
 ghost use Rattle.verify.specs.RunsItemByNumber.{AreNamed, HasCitedIn, RunsItemIn, TellsDisjoint};
 ghost use Rattle.verify.specs.ResultPlaces.{IsKept};
-ghost use Rattle.verify.specs.Walk.{IsHeard};
+ghost use Rattle.verify.specs.Walk.{IsHeardIn};
 
 use crate::label_table::LabelEntry;
 use crate::listener::Listener;
@@ -141,7 +141,7 @@ fn cite_entry<L: Listener>(
     ensures effect { IfOk result (HasCitedIn context.now entry buffers.old.results buffers.new.results) }
     ensures kept { IfOk result (λ ok. IsKept ok buffers.old.results buffers.new.results) }
     ensures heard { (label : Name) → IsEntryIn context.now label entry
-        → IfOk result (λ ok. IsHeard ok L.follows context.now.frames.now context.now.at (Cite label) buffers.old.results buffers.new.results listener.old listener.new) }
+        → IfOk result (IsHeardIn L.follows context.now (Cite label) buffers.old.results buffers.new.results listener.old listener.new) }
 {
     match entry {
         LabelEntry::Hypothesis(i) => {
@@ -184,7 +184,7 @@ pub fn step<L: Listener>(
         → IfOk result (RunsItemIn context.now (item_of labels number) buffers.old.results buffers.new.results) }
     ensures kept { IfOk result (λ ok. IsKept ok buffers.old.results buffers.new.results) }
     ensures heard { (labels : List Name) → AreEntriesIn context.now labels table.now
-        → IfOk result (λ ok. IsHeard ok L.follows context.now.frames.now context.now.at (item_of labels number) buffers.old.results buffers.new.results listener.old listener.new) }
+        → IfOk result (IsHeardIn L.follows context.now (item_of labels number) buffers.old.results buffers.new.results listener.old listener.new) }
 {
     if number == 0 {
         if !buffers.results.mark()? {
