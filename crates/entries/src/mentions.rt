@@ -1,7 +1,7 @@
 //! For each number, the statements that mention it, each with the mention that was active beneath
 //! it.
 ghost use Rattle.std.specs.Prelude.{◌≡◌, ℕ, ◌≤◌, ◌<◌, ◌++◌, ◌∷◌, [], length, take, IsTrue, IfSome, IfNone, OnOk, OnErr};
-ghost use Rattle.entries.specs.Mentions.{AreKeptUntil, AreSame, AreUntil, AreWith, IsFront, IsLast, IsPoppedAfter, IsUntil, before, mentions_of, positions_of};
+ghost use Rattle.entries.specs.Mentions.{AreKeptUntil, AreMentions, AreSame, AreUntil, AreWith, IsFront, IsLast, IsPoppedAfter, IsUntil, before, mentions_of, positions_of};
 
 use crate::room::give_back;
 use std::alloc::{AllocError, Global};
@@ -81,14 +81,12 @@ impl MentionList {
 
     /// Returns the mentions before `at`.
     ///
-    /// Cost: a binary search.
+    /// Cost: that of `count_before`.
     fn before(&self, at: usize) -> MentionStack<'_>
         ensures before { result ≡ before at self.now }
         ensures front { (n : ℕ) × (result ≡ take n self.now) }
     {
-        let count = self
-            .mentions
-            .partition_point(|mention| (mention.position as usize) < at);
+        let count = count_before(&self.mentions, at);
         MentionStack {
             mentions: &self.mentions[..count],
         }
@@ -224,7 +222,7 @@ impl Mentions {
 
     /// Returns the mentions of a number before `at`.
     ///
-    /// Cost: a binary search.
+    /// Cost: a constant if all are before `at`, else a binary search.
     pub fn stack(&self, number: u32, at: usize) -> MentionStack<'_>
         ensures before { result ≡ before at (mentions_of self.now number) }
         ensures front { (n : ℕ) × (result ≡ take n (mentions_of self.now number)) }
@@ -246,6 +244,23 @@ impl Mentions {
         give_back(&mut self.lists);
         give_back(&mut self.log);
     }
+}
+
+/// Returns how many of the mentions are before `at`.
+///
+/// Cost: a constant if all are, else a binary search.
+fn count_before(mentions: &[Mention], at: usize) -> usize
+    requires { AreMentions mentions.now }
+    ensures within { result ≤ length mentions.now }
+    ensures first { take result mentions.now ≡ before at mentions.now }
+{
+    let Some(last) = mentions.last() else {
+        return 0;
+    };
+    if (last.position as usize) < at {
+        return mentions.len();
+    }
+    mentions.partition_point(|mention| (mention.position as usize) < at)
 }
 
 /// Removes the last list as long as it is empty and there are more than `count`.

@@ -161,7 +161,7 @@ pub fn remove_entries(storage: &mut Storage, len: usize)
     ensures count { length storage.new.floats.items ≡ length storage.old.floats.items }
     ensures count_ends { length storage.new.ends.items ≡ length storage.old.ends.items }
     ensures names { (storage.new.numbering ≡ storage.old.numbering) × (storage.new.positions ≡ storage.old.positions) }
-    ensures stacks { (storage.new.disjoints ≡ storage.old.disjoints) × (storage.new.variables ≡ storage.old.variables) }
+    ensures tables { (storage.new.disjoints ≡ storage.old.disjoints) × (storage.new.variables ≡ storage.old.variables) }
     ensures last_active { storage.new.last_active ≡ storage.old.last_active }
 {
     while storage.entries.len() > len {

@@ -256,7 +256,7 @@ impl Frames {
 
     /// Truncates to the first `len` statements.
     ///
-    /// Cannot fail. Frees the capacity only of stacks of which little is left; `shrink` frees the
+    /// Cannot fail. Frees the capacity only of mentions of which few are left; `shrink` frees the
     /// rest. Cost: the size of the statements that are removed.
     pub fn shorten(&mut self, len: usize)
         ensures statements { self.new.statements ≡ take len self.old.statements }

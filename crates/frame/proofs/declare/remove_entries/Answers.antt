@@ -55,7 +55,7 @@ loop-storage-preserved c =
       ends_count = ap length c.record_end.ensures ∙ (length-with e.kind e.last_active.block 0 here.ends.items ∙ i.ends_count);
       count = c.restore.ensures.count ∙ i.count;
       names = i.names;
-      stacks = i.stacks;
+      tables = i.tables;
       last_active = i.last_active;
     })
 
@@ -71,6 +71,6 @@ loop-storage-init c =
       ends_count = refl;
       count = refl;
       names = (refl, refl);
-      stacks = (refl, refl);
+      tables = (refl, refl);
       last_active = refl;
     }

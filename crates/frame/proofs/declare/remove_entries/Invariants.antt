@@ -11,7 +11,7 @@ invariant-loop-storage l = record {
   ends_count : length l.storage.ends.items ≡ length l.fn.storage.ends.items;
   count : length l.storage.floats.items ≡ length l.fn.storage.floats.items;
   names : (l.storage.numbering ≡ l.fn.storage.numbering) × (l.storage.positions ≡ l.fn.storage.positions);
-  stacks : (l.storage.disjoints ≡ l.fn.storage.disjoints) × (l.storage.variables ≡ l.fn.storage.variables);
+  tables : (l.storage.disjoints ≡ l.fn.storage.disjoints) × (l.storage.variables ≡ l.fn.storage.variables);
   last_active : l.storage.last_active ≡ l.fn.storage.last_active;
 }
 

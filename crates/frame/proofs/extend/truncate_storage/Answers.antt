@@ -39,8 +39,8 @@ left c =
     let ends : new.ends.items ≡ take n c.remove_entries.new.storage.ends.items = back.ends ∙ ap (λ m. take m c.remove_entries.new.storage.ends.items) long in
     let statements = cut-statements c.requires.stored.kept cut in
     let low : n ≤ length k.entries = omega (arith, slice_get_within k.entries n e c.entry-first.ensures.1) in
-    let kept_disjoints : AreKeptUntil (length c.remove_entries.new.storage.entries) c.remove_entries.new.storage.disjoints new.disjoints → AreKeptUntil n k.disjoints new.disjoints = λ h. rw (← long, ← away.stacks.0) h in
-    let kept_variables : AreKeptUntil (length c.remove_entries.new.storage.entries) c.remove_entries.new.storage.variables new.variables → AreKeptUntil n k.variables new.variables = λ h. rw (← long, ← away.stacks.1) h in (
+    let kept_disjoints : AreKeptUntil (length c.remove_entries.new.storage.entries) c.remove_entries.new.storage.disjoints new.disjoints → AreKeptUntil n k.disjoints new.disjoints = λ h. rw (← long, ← away.tables.0) h in
+    let kept_variables : AreKeptUntil (length c.remove_entries.new.storage.entries) c.remove_entries.new.storage.variables new.variables → AreKeptUntil n k.variables new.variables = λ h. rw (← long, ← away.tables.1) h in (
       record {
         kept = kept-cut c.requires.stored.kept cut;
         numbered = numbering ∙ ap naming_of (sym statements);
