@@ -1,8 +1,9 @@
 -- Pairs of variables in an active `$d`, and active variables, by the active statements that have a
 -- symbol.
-use Rattle.frame.proofs.Words.{are_together, disjoint_symbols, ◌≡◌, ◌∙◌, ap, sym, arith, refl, ℕ, suc, ◌+◌, ◌-◌, ◌<◌, Bool, true, false, cond, not, ◌||◌, ◌&&◌, ◌==◌, nat_eq, List, [], ◌∷◌, ◌++◌, length, map, filter, take, slice_get, Option, Some, None, length-take, same_Some, list_any, or-false, append_assoc, length-append, take-get, list_any-map, AllBelow, AreBelow, Name, has_name, name_at, decode, AreDistinct, Stmt, Database, Entry, Storage, stays_open, active_from, actives, actives_from, is_disj, is_var, is_variable, disjoint_names, variables, is_pair, active_disjoint_lists, names_in, labels_in, statements_of, stmt_of, AreStored, symbols_at, option_symbols, has_code, having_after, positions_with, IsOfKind, AreOfKind, AreListsOfPairs, have_both}
+use Rattle.frame.proofs.Words.{are_together, disjoint_symbols, ◌≡◌, ◌∙◌, ap, sym, arith, refl, ℕ, suc, ◌+◌, ◌-◌, ◌<◌, Bool, true, false, cond, not, ◌||◌, ◌&&◌, ◌==◌, nat_eq, List, [], ◌∷◌, ◌++◌, length, map, filter, take, slice_get, Option, Some, None, length-take, same_Some, list_any, or-false, append_assoc, length-append, take-get, list_any-map, AllBelow, AreBelow, Name, has_name, name_at, decode, AreDistinct, Stmt, Database, Entry, Storage, stays_open, active_from, actives, actives_from, is_disj, is_var, is_variable, disjoint_names, variables, is_pair, active_disjoint_lists, names_in, labels_in, statements_of, stmt_of, AreStored, symbols_at, option_symbols, has_code, having_after, positions_with, IsOfKind, AreOfKind, AreListsOfPairs, have_both, subst}
 use Rattle.frame.proofs.FoundByNumber.{map-back}
 use Rattle.frame.proofs.LegalAfter.{stands-at}
+use Rattle.frame.proofs.MentionListLemmas.{with-below}
 use Rattle.frame.proofs.StoredOneMore.{numbered-at}
 use Rattle.frame.proofs.KindWalk.{AreLists, any-active, has-decode, same-number, disjoint_lists, variable_lists}
 use Rattle.frame.proofs.PositionsWith.{AreIn, actives-in, positions_with-push}
@@ -171,19 +172,6 @@ module _ (k : Storage) (stored : AreStored k) (d : AreDistinct (names_in k)) (m 
 
 -- ---- the symbols of one `$d`
 
-abbrev AllLess : ℕ → List ℕ → Type 0
-AllLess n [] = Unit {0}
-AllLess n (x ∷ xs) = (x < n) × AllLess n xs
-
-positions_with-less : (n m : ℕ) (found : List ℕ) (es : List Entry) (c : ℕ) (ps : List (ℕ × Stmt)) → m < n → AllLess n found → AreIn 1 m ps → AllLess n (having_after found es c ps)
-positions_with-less n m found es c [] lt all within = all
-positions_with-less n m found es c (p ∷ ps) lt all within =
-    by (has_code es c p.0) (positions_with-less n m (p.0 ∷ found) es c ps lt (let w = within.0.1 in omega (arith, w, lt), all) within.1) (positions_with-less n m found es c ps lt all within.1)
-  where
-    by : (b : Bool) → AllLess n (having_after (p.0 ∷ found) es c ps) → AllLess n (having_after found es c ps) → AllLess n (having_after (cond b (p.0 ∷ found) found) es c ps)
-    by true with without = with
-    by false with without = without
-
 -- right after a `$d`, it is the last active one exactly of its symbols
 module _ (k : Storage) (p c : ℕ) (of_kind : IsOfKind is_disj (statements_of k) p) (st : List ℕ) (is : st ≡ positions_with k.entries c (actives is_disj (take (p + 1 - 1) (statements_of k)))) where
   abbrev rest : List ℕ
@@ -207,16 +195,15 @@ module _ (k : Storage) (p c : ℕ) (of_kind : IsOfKind is_disj (statements_of k)
       last place = rw (of_kind.of_kind, place) refl
 
   -- the other active `$d` are before this one
-  rest-less : AllLess p rest
+  rest-less : AreBelow p rest
   rest-less =
       let one = of_kind.one in
-      positions_with-less p (p - 1) [] k.entries c (actives is_disj (take (p - 1) (statements_of k))) (omega (arith, one)) tt
-      (actives-in is_disj 1 1 (p - 1) (take (p - 1) (statements_of k)) (omega arith) (omega (arith, length-take {A = Stmt})))
+      subst (λ n. AreBelow n rest) (omega (arith, one, length-cut (statements_of k) (p - 1) of_kind.statement of_kind.stands)) (with-below is_disj k.entries c (take (p - 1) (statements_of k)))
 
   pub top-some : (last : ℕ) → Some last ≡ slice_get st 0 → nat_eq last p ≡ has_code k.entries c p
   top-some last top = by (has_code k.entries c p) rest (top ∙ ap (λ l. slice_get l 0) stack-is) rest-less
     where
-      by : (b : Bool) (r : List ℕ) → Some last ≡ slice_get (cond b (p ∷ r) r) 0 → AllLess p r → nat_eq last p ≡ b
+      by : (b : Bool) (r : List ℕ) → Some last ≡ slice_get (cond b (p ∷ r) r) 0 → AreBelow p r → nat_eq last p ≡ b
       by true r e less = let same : last ≡ p = same_Some last p e in grind (arith, same)
       by false [] e less = cc
       by false (x ∷ r) e less = let same : last ≡ x = same_Some last x e in let low = less.0 in grind (arith, same, low)
