@@ -187,7 +187,7 @@ fn are_pairs(
 /// Makes the row of a variable the set: the other symbols of the active `$d` that have it.
 ///
 /// Errors: an allocation fails. Cost: these symbols.
-fn read_row(row: &mut SymbolSet, pairs: &Pairs<'_>, variable: u32) -> Result<(), AllocError>
+pub(crate) fn read_row(row: &mut SymbolSet, pairs: &Pairs<'_>, variable: u32) -> Result<(), AllocError>
     requires { variable < length pairs.now.names }
     ensures { OnOk result (IsRowOf pairs.now variable row.new) }
 {
