@@ -194,20 +194,33 @@ module _ (f : Numbered) (a : ℕ) (s : Stmt) (c : AssertionView) (r : HeldResult
       pub float_fault : (x : ℕ) (excerpt : Excerpt) → slice_get c.hypotheses k ≡ Some (Float x) → IsExcerpt actual excerpt → IsMismatchFault f.statements f.names a s named (OtherTypecode a p excerpt)
       float_fault x excerpt at cut =
           let h = numbered_at k (Float x) at in
-          let listed = subst (λ qs. slice_get qs k ≡ Some p) same (slice_get-get_or ps k 0 within) in
-          (refl, (k, decode f.names actual, mismatch,
-          other_typecode f.statements f.names a s legal.distinct (legal.well_typed a s has) c.typecodes.now c.hypotheses is.numbered_hypotheses (top n stack) (length-top n stack read.count) r.images read.given k p h.0 x e actual
-          listed at h.1 said below here actual_low differ,
-          excerpt_named f.names actual excerpt cut))
+          let listed = subst (λ qs. slice_get qs k ≡ Some p) same (slice_get-get_or ps k 0 within) in (
+            refl,
+            (
+              k,
+              decode f.names actual,
+              mismatch,
+              other_typecode f.statements f.names a s legal.distinct (legal.well_typed a s has) c.typecodes.now c.hypotheses is.numbered_hypotheses (top n stack) (length-top n stack read.count) r.images read.given k p h.0 x e actual
+                  listed at h.1 said below here actual_low differ,
+              excerpt_named f.names actual excerpt cut,
+            ),
+          )
 
       -- the fault of a `$e`
       pub essential_fault : (q : ℕ) (wanted excerpt : Excerpt) → slice_get c.hypotheses k ≡ Some (Essential q) → IsExcerpt (code_apply r.images e) wanted → IsExcerpt actual excerpt
           → IsMismatchFault f.statements f.names a s named (OtherExpression a p wanted excerpt)
       essential_fault q wanted excerpt at first cut =
-          let h = numbered_at k (Essential q) at in
-          (refl, (k, decode f.names actual, mismatch, essential_is f.statements f.names p h.0 q h.1,
-          subst (λ x. IsExcerptOf f.names x wanted) (required ∙ ap (λ qs. required_result f.statements (images_read f.statements qs named) p) same) (excerpt_named f.names (code_apply r.images e) wanted first),
-          excerpt_named f.names actual excerpt cut))
+          let h = numbered_at k (Essential q) at in (
+            refl,
+            (
+              k,
+              decode f.names actual,
+              mismatch,
+              essential_is f.statements f.names p h.0 q h.1,
+              subst (λ x. IsExcerptOf f.names x wanted) (required ∙ ap (λ qs. required_result f.statements (images_read f.statements qs named) p) same) (excerpt_named f.names (code_apply r.images e) wanted first),
+              excerpt_named f.names actual excerpt cut,
+            ),
+          )
 
   -- all results are those that are required
   pub all_match : (k : ℕ) → length ps ≤ k → AllMatch f.statements τ (take k ps) (take k named) → ResultsMatch f.statements a s named

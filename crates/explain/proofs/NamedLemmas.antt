@@ -71,7 +71,7 @@ pub given_same : (S : Database) (names : List Name) (distinct : AreDistinct name
     → AreNumberedHypotheses S names ps typecodes hs → AreGiven hs rs σ → AreSame names σ (images_read S ps (map (decode names) rs))
 given_same S names distinct ps typecodes hs rs σ numbered given = record {
   each = λ n low. (let are = images_are S names ps typecodes hs rs numbered in
-  ap (decode names) (given.each n) ∙ (image_same names distinct (code_images_read hs rs) n are.1 low ∙ ap (λ τ. image τ (name_at names n)) are.0));
+      ap (decode names) (given.each n) ∙ (image_same names distinct (code_images_read hs rs) n are.1 low ∙ ap (λ τ. image τ (name_at names n)) are.0));
 }
 
 -- decoding after substitution by number is substitution by name after decoding

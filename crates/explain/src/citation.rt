@@ -77,7 +77,15 @@ fn assertion_fault(
         });
     }
     results.read_untyped(&cited.hypotheses)?;
-    match results_fault(alloc, frames, at, cited_at, mandatory.as_slice(), &cited, &*results)? {
+    match results_fault(
+        alloc,
+        frames,
+        at,
+        cited_at,
+        mandatory.as_slice(),
+        &cited,
+        &*results,
+    )? {
         Some(fault) => Ok(fault),
         None => Ok(ItemFault::TooManySymbols),
     }

@@ -67,8 +67,7 @@ impl Excerpt {
             return Err(AllocError);
         };
         let room = EXCERPT_LEN.saturating_sub(self.symbols.len());
-        self.symbols
-            .extend_from_slice(first_symbols(more, room))?;
+        self.symbols.extend_from_slice(first_symbols(more, room))?;
         self.len = len;
         Ok(())
     }

@@ -12,4 +12,3 @@ pub mod SubstitutionLemmas
 pub mod DisjointLemmas
 mod Rows
 pub mod GroupLemmas
-pub mod ViolationLemmas

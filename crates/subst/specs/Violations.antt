@@ -8,10 +8,6 @@ use Rattle.subst.specs.Words.{Numbered, CodeImages, code_image}
 use Rattle.subst.specs.Stored.VariableLists.{has_number, is_numbered_variable}
 use Rattle.subst.specs.declared.violation.DisjointViolation.{DisjointViolation}
 
--- u is in an active `$d` with each variable of the images of the numbers other than x
-pub record IsApart (v : Numbered) (σ : CodeImages) (x : ℕ) (numbers : List ℕ) (u : ℕ) : Type 0 where
-  pub each : (y w : ℕ) → has_number numbers y ≡ true → (x == y) ≡ false → has_number (code_image σ y) w ≡ true → is_numbered_variable v w ≡ true → is_numbered_pair v u w ≡ true
-
 -- y is one of the numbers other than x, and w a variable of its image; no active `$d` has u and w,
 -- or they are the same
 pub record IsUnpairedOther (v : Numbered) (σ : CodeImages) (x : ℕ) (numbers : List ℕ) (u y w : ℕ) : Type 0 where

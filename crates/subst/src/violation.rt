@@ -1,19 +1,21 @@
 //! Two variables of an assertion whose images violate the disjoint variable condition.
-ghost use Rattle.std.specs.Prelude.{◌≡◌, ℕ, ◌<◌, length, true, false, IfOk, MatchOption, OnOk};
-ghost use Rattle.std.specs.List.{list_all};
+ghost use Rattle.std.specs.Prelude.{◌≡◌, ◌==◌, ◌&&◌, ◌<◌, length, not, true, false, IfOk, MatchOption, OnOk};
+ghost use Rattle.std.specs.List.{list_all, list_any};
 ghost use Rattle.frame.specs.Below.{AllBelow, AreBelow};
+ghost use Rattle.frame.specs.ListsOfPairs.{is_numbered_pair};
+ghost use Rattle.frame.specs.Substitution.{code_image};
 ghost use Rattle.subst.specs.DisjointImages.{are_numbers_disjoint, image_named, is_number_disjoint};
 ghost use Rattle.subst.specs.Images.{AreOver};
 ghost use Rattle.subst.specs.Stored.SymbolSets.{has_symbol};
-ghost use Rattle.subst.specs.Stored.VariableLists.{AreLists, IsRowOf, has_number};
+ghost use Rattle.subst.specs.Stored.VariableLists.{AreLists, has_number};
 ghost use Rattle.subst.specs.SymbolRanges.{AreInside, images_at};
-ghost use Rattle.subst.specs.Violations.{IsApart, IsUnpairedOther, IsUnpairedWith, IsViolation, IsViolationOf};
+ghost use Rattle.subst.specs.Violations.{IsUnpairedWith, IsViolation, IsViolationOf};
 
 use crate::buffer::Buffer;
-use crate::disjoint_images::read_row;
+use crate::disjoint_images::{DisjointImages, read_row};
 use crate::image_ranges::ImageRanges;
+use crate::symbol_range::symbols_at;
 use crate::symbol_set::SymbolSet;
-use crate::variable_lists::VariableLists;
 use entries::Groups;
 use frame::Pairs;
 use std::alloc::{AllocError, Global};
@@ -33,7 +35,7 @@ pub struct DisjointViolation {
 /// ranges of the buffer.
 ///
 /// Errors: an allocation fails, or the images have more than 4,294,967,295 variables.
-/// Cost: at most that of `DisjointImages::are_groups_disjoint`.
+/// Cost: at most that of `DisjointImages::are_groups_disjoint`, and the symbols of the images again.
 /// Source: Metamath, 4.2.6.
 pub fn first_violation(
     alloc: Global,
@@ -49,35 +51,25 @@ pub fn first_violation(
         (list_all (are_numbers_disjoint pairs.now.statements (image_named pairs.now.names (images_at symbols.now images.now))) groups.now ≡ true)
         (IsViolation pairs.now (images_at symbols.now images.now) groups.now)) }
 {
-    let mut search = ViolationSearch {
-        images: VariableLists::new(alloc),
-        own: Vec::new(alloc),
-        row: SymbolSet::new(alloc),
-    };
-    search.images.clear();
+    let mut disjoint_images = DisjointImages::new(alloc);
+    disjoint_images.images.clear();
     let symbols = symbols.as_slice();
     for k in 0..groups.len() {
-        if let Some(violation) = search.in_group(pairs, symbols, images, groups.get(k))? {
+        if let Some(violation) = disjoint_images.violation_in(
+            pairs,
+            symbols,
+            images,
+            groups.get(k),
+        )? {
             return Ok(Some(violation));
         }
     }
     Ok(None)
 }
 
-/// The search for a violation in one citation.
-#[derive(Drop)]
-struct ViolationSearch {
-    /// The variables of the images that were read.
-    images: VariableLists,
-    /// The variables of the image that is compared with others.
-    own: Vec<u32>,
-    /// The variables that are in an active `$d` with one of them.
-    row: SymbolSet,
-}
-
-impl ViolationSearch {
+impl DisjointImages {
     /// Returns two variables of a group whose images are not disjoint, if there are such.
-    fn in_group(
+    fn violation_in(
         &mut self,
         pairs: &Pairs<'_>,
         symbols: &[u32],
@@ -94,7 +86,13 @@ impl ViolationSearch {
             (IsViolationOf pairs.now (images_at symbols.now images.now) group.now)) }
     {
         for i in 1..group.len() {
-            if let Some(violation) = self.with_others(pairs, symbols, images, group[i], &group[..i])? {
+            if let Some(violation) = self.violation_with(
+                pairs,
+                symbols,
+                images,
+                group[i],
+                &group[..i],
+            )? {
                 return Ok(Some(violation));
             }
         }
@@ -104,10 +102,8 @@ impl ViolationSearch {
     /// Returns x and one of the others in a list whose images are not disjoint, if there is one.
     ///
     /// Errors: an allocation fails, or the images have more than 4,294,967,295 variables.
-    /// Cost: each image that was not read in this citation; for each variable of the image of x the
-    /// symbols of the active `$d` that have it, a look-up for each of the others, and the variables
-    /// of the other images, up to the first violation.
-    fn with_others(
+    /// Cost: that of `is_disjoint`, and if there is one the symbols of the images of the others.
+    fn violation_with(
         &mut self,
         pairs: &Pairs<'_>,
         symbols: &[u32],
@@ -125,56 +121,50 @@ impl ViolationSearch {
             (is_number_disjoint pairs.now.statements (image_named pairs.now.names (images_at symbols.now images.now)) others.now x ≡ true)
             (IsUnpairedWith pairs.now (images_at symbols.now images.now) x others.now)) }
     {
-        let range = self.images.variables_of(pairs, symbols, images, x)?;
-        self.own.clear();
-        self.own
-            .extend_from_slice(self.images.variables_in(range))?;
-        for i in 0..self.own.len() {
-            let variable = self.own[i];
-            read_row(&mut self.row, pairs, variable)?;
-            if let Some((other, unpaired)) = self.unpaired_other(pairs, symbols, images, x, others)? {
-                return Ok(Some(DisjointViolation {
-                    first: other,
-                    second: x,
-                    in_first_image: unpaired,
-                    in_second_image: variable,
-                }));
-            }
+        let own = self.images.variables_of(pairs, symbols, images, x)?;
+        if own.start == own.end {
+            return Ok(None);
         }
-        Ok(None)
+        self.collect_others(pairs, symbols, images, x, others)?;
+        let own = self.images.variables_in(own);
+        let Some((variable, other)) = first_unpaired(&mut self.row, pairs, own, &self.others)?
+        else {
+            return Ok(None);
+        };
+        let Some(first) = first_with(symbols, images, x, others, other) else {
+            unreachable!();
+        };
+        Ok(Some(DisjointViolation {
+            first,
+            second: x,
+            in_first_image: other,
+            in_second_image: variable,
+        }))
     }
+}
 
-    /// Returns one of the others in a list than x, and a variable of its image that is not in the
-    /// row, if there is one.
-    fn unpaired_other(
-        &mut self,
-        pairs: &Pairs<'_>,
-        symbols: &[u32],
-        images: &ImageRanges,
-        x: u32,
-        others: &[u32],
-    ) -> Result<Option<(u32, u32)>, AllocError>
-        requires lists { AreLists pairs.now (images_at symbols.now images.now) self.old.images }
-        requires named { AreOver pairs.now.names (images_at symbols.now images.now) }
-        requires inside { AreInside (length symbols.now) images.now }
-        requires below { AreBelow (length pairs.now.names) others.now }
-        ensures lists { OnOk result (AreLists pairs.now (images_at symbols.now images.now) self.new.images) }
-        ensures own { OnOk result (self.new.own.items ≡ self.old.own.items) }
-        ensures found { (u : ℕ) → IsRowOf pairs.now u self.old.row → IfOk result (λ found. MatchOption found
-            (IsApart pairs.now (images_at symbols.now images.now) x others.now u)
-            (λ r. IsUnpairedOther pairs.now (images_at symbols.now images.now) x others.now u r.0 r.1)) }
-    {
-        for other in others {
-            if *other == x {
-                continue;
-            }
-            let range = self.images.variables_of(pairs, symbols, images, *other)?;
-            if let Some(variable) = first_outside(&self.row, self.images.variables_in(range)) {
-                return Ok(Some((*other, variable)));
-            }
+/// Returns the first of the variables, and of the others, that are no pair of an active `$d`.
+///
+/// Errors: an allocation fails. Cost: for each variable the symbols of the active `$d` that have
+/// it, and the others, up to the first pair that is none.
+fn first_unpaired(
+    row: &mut SymbolSet,
+    pairs: &Pairs<'_>,
+    variables: &[u32],
+    others: &[u32],
+) -> Result<Option<(u32, u32)>, AllocError>
+    requires variables { AreBelow (length pairs.now.names) variables.now }
+    requires others { AreBelow (length pairs.now.names) others.now }
+    ensures { IfOk result (λ found. MatchOption found (list_all (λ u. list_all (is_numbered_pair pairs.now u) others.now) variables.now ≡ true)
+        (λ r. (has_number variables.now r.0 ≡ true) × (has_number others.now r.1 ≡ true) × (is_numbered_pair pairs.now r.0 r.1 ≡ false))) }
+{
+    for variable in variables {
+        read_row(row, pairs, *variable)?;
+        if let Some(other) = first_outside(&*row, others) {
+            return Ok(Some((*variable, other)));
         }
-        Ok(None)
     }
+    Ok(None)
 }
 
 /// Returns the first symbol of a list that is not in the set.
@@ -188,4 +178,45 @@ fn first_outside(set: &SymbolSet, list: &[u32]) -> Option<u32>
         }
     }
     None
+}
+
+/// Returns the first of the others in a list than x whose image has a symbol.
+fn first_with(
+    symbols: &[u32],
+    images: &ImageRanges,
+    x: u32,
+    others: &[u32],
+    symbol: u32,
+) -> Option<u32>
+    requires { AreInside (length symbols.now) images.now }
+    ensures { MatchOption result (list_any (λ y. not (x == y) && has_number (code_image (images_at symbols.now images.now) y) symbol) others.now ≡ false)
+        (λ y. (has_number others.now y ≡ true) × ((x == y) ≡ false) × (has_number (code_image (images_at symbols.now images.now) y) symbol ≡ true)) }
+{
+    for other in others {
+        if *other == x {
+            continue;
+        }
+        if has_in_image(symbols, images, *other, symbol) {
+            return Some(*other);
+        }
+    }
+    None
+}
+
+/// Returns whether the image of y has a symbol.
+fn has_in_image(symbols: &[u32], images: &ImageRanges, y: u32, symbol: u32) -> bool
+    requires { AreInside (length symbols.now) images.now }
+    ensures { result ≡ has_number (code_image (images_at symbols.now images.now) y) symbol }
+{
+    match images.get(y) {
+        Some(range) => has_one(symbols_at(symbols, range), symbol),
+        None => symbol == y,
+    }
+}
+
+/// Returns whether the list has a symbol.
+fn has_one(list: &[u32], symbol: u32) -> bool
+    ensures { result ≡ has_number list.now symbol }
+{
+    list.iter().any(|other| symbol == *other)
 }

@@ -358,8 +358,7 @@ impl Results {
         requires { index < length self.now.results.stack }
         ensures { IsTrue result ↔ (get_or self.now.results.stack index [] ≡ code_apply self.now.images expr.now) }
     {
-        self.symbols
-            .matches(&self.images, expr, self.stack[index])
+        self.symbols.matches(&self.images, expr, self.stack[index])
     }
 
     /// Returns two variables of one of the groups whose images are not disjoint at the statement of

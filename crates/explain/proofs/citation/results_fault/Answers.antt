@@ -34,10 +34,12 @@ returns-in-Some-violation c s e =
     let pn = c.active_pairs-pairs.ensures.names in
     let same = subst (λ ns. AreSame ns σ τ) (sym pn) (images_same c.args.frames.now c.args.cited_at s c.args.cited.now c.args.results.now ps c.requires.legal has cited refl c.requires.read) in
     let low = subst (λ ns. AllBelow (length ns) c.args.cited.now.groups) (sym pn) cited.groups_below in
-    let groups = ap (λ ns. map (decode ns) c.args.cited.now.groups) pn ∙ cited.groups in
-    (refl, rw c.in_default.is at (c.in_ok-fault.ensures s e),
-    violation_moved τ c.active_pairs-pairs.ensures.statements pn groups c.in-Some-violation.violation
-    (violation_named pairs σ τ c.args.cited.now.groups c.in-Some-violation.violation (subst (λ ns. AreDistinct ns) (sym pn) c.requires.legal.distinct) same low (rw c.in-Some-violation.is at c.in_ok-violation.ensures)))
+    let groups = ap (λ ns. map (decode ns) c.args.cited.now.groups) pn ∙ cited.groups in (
+      refl,
+      rw c.in_default.is at (c.in_ok-fault.ensures s e),
+      violation_moved τ c.active_pairs-pairs.ensures.statements pn groups c.in-Some-violation.violation
+          (violation_named pairs σ τ c.args.cited.now.groups c.in-Some-violation.violation (subst (λ ns. AreDistinct ns) (sym pn) c.requires.legal.distinct) same low (rw c.in-Some-violation.is at c.in_ok-violation.ensures)),
+    )
 
 pub returns : goal.returns
 returns c s e =

@@ -2,8 +2,8 @@ use Rattle.subst.proofs.Words.{◌&&◌, [], length, get_or, ◌∙◌, ap, list
 use Rattle.subst.proofs.GroupLemmas.{below-group}
 use Rattle.subst.proofs.violation.first_violation.Goals as goal
 
-pub in_group-requires-clause-below : goal.in_group-requires-clause-below
-in_group-requires-clause-below c = below-group (length c.args.pairs.now.names) c.args.groups.now c.loop-k.k c.get.result.now c.requires.below c.get.ensures
+pub violation_in-requires-clause-below : goal.violation_in-requires-clause-below
+violation_in-requires-clause-below c = below-group (length c.args.pairs.now.names) c.args.groups.now c.loop-k.k c.get.result.now c.requires.below c.get.ensures
 
 pub loop-k-preserved : goal.loop-k-preserved
 loop-k-preserved c =

@@ -1,12 +1,12 @@
 use Rattle.subst.proofs.Words.{length, true, sym, below-at, below-take, image_named, images_at}
 use Rattle.subst.proofs.GroupLemmas.{decides-all, decides-more}
-use Rattle.subst.proofs.violation.ViolationSearch.in_group.Goals as goal
+use Rattle.subst.proofs.disjoint_images.DisjointImages.violation_in.Goals as goal
 
-pub with_others-requires-clause-number : goal.with_others-requires-clause-number
-with_others-requires-clause-number c = below-at (length c.args.pairs.now.names) c.args.group.now c.loop-i.i 0 c.requires.below c.loop-i-test.true
+pub violation_with-requires-clause-number : goal.violation_with-requires-clause-number
+violation_with-requires-clause-number c = below-at (length c.args.pairs.now.names) c.args.group.now c.loop-i.i 0 c.requires.below c.loop-i-test.true
 
-pub with_others-requires-clause-below : goal.with_others-requires-clause-below
-with_others-requires-clause-below c = below-take (length c.args.pairs.now.names) c.loop-i.i c.args.group.now c.requires.below
+pub violation_with-requires-clause-below : goal.violation_with-requires-clause-below
+violation_with-requires-clause-below c = below-take (length c.args.pairs.now.names) c.loop-i.i c.args.group.now c.requires.below
 
 pub loop-i-preserved : goal.loop-i-preserved
 loop-i-preserved c = record {

@@ -1,6 +1,6 @@
 use Rattle.subst.proofs.Words.{true, AreLists, image_named, images_at}
 use Rattle.subst.proofs.GroupLemmas.{Decides}
-use Rattle.subst.proofs.violation.ViolationSearch.in_group.Given as goal
+use Rattle.subst.proofs.disjoint_images.DisjointImages.violation_in.Given as goal
 
 -- the images of the numbers so far are disjoint
 abbrev pub invariant-loop-i : goal.invariant-loop-i
