@@ -1,5 +1,5 @@
 -- The result of a citation, and the fault of wrong results.
-use Rattle.explain.proofs.Words.{◌≡◌, ℕ, zero, suc, ◌+◌, ◌-◌, ◌<◌, Bool, true, List, [], ◌∷◌, ◌++◌, length, refl, sym, ◌∙◌, ap, subst, Some, None, Option, slice_get, ◌&&◌, IsTrue, list_all, same_Some, Name, Stmt, Database, Expr, stmt_at, before, expr_of, is_variable, is_assertion, decode, hypotheses, HasAssertion, IsHypothesis, ItemFault, UnknownLabel, Inactive, NotEarlier, TooFewResults, OtherTypecode, OtherExpression, NotDisjoint, TooManySymbols, NoMarkedResult, image_at, images_read, AreCorrectResults, images_of, IsResultsFault, CitationGives, of_assertion, State, IsCitationFault}
+use Rattle.explain.proofs.Words.{◌≡◌, ℕ, zero, suc, ◌<◌, Bool, true, List, [], ◌∷◌, ◌++◌, length, refl, sym, ◌∙◌, ap, subst, Some, None, Option, slice_get, ◌&&◌, IsTrue, list_all, same_Some, Name, Stmt, Database, Expr, stmt_at, before, expr_of, is_variable, is_assertion, decode, hypotheses, HasAssertion, IsHypothesis, ItemFault, UnknownLabel, Inactive, NotEarlier, TooFewResults, OtherTypecode, OtherExpression, NotDisjoint, TooManySymbols, NoMarkedResult, image_at, images_read, AreCorrectResults, images_of, IsResultsFault, CitationGives, of_assertion, State, IsCitationFault}
 use Rattle.mm_read.specs.declared.stmt.Stmt.TheVariants as stmt
 use Rattle.frame.specs.Substitution.{apply as applied}
 

@@ -4,14 +4,10 @@ pub mod ReadItemsLemmas
 pub mod LetterNumberLemmas
 pub mod LetterLemmas
 pub mod TokenLemmas
-pub mod VectorLemmas
-pub mod ImagesLemmas
-pub mod AgreeLemmas
 pub mod NamedLemmas
+pub mod ExcerptLemmas
 pub mod CitationFaultLemmas
 pub mod ViolationLemmas
-pub mod VariableLemmas
-pub mod DisjointPairLemmas
 pub mod WrongResultsLemmas
 pub mod KeptRunLemmas
 pub mod RunItemLemmas

@@ -1,37 +1,39 @@
 -- Images by number and by name.
-use Rattle.explain.proofs.Words.{◌≡◌, ℕ, zero, suc, ◌+◌, ◌<◌, Bool, true, false, cond, List, [], ◌∷◌, ◌++◌, length, drop, get_or, map, arith, refl, sym, ◌∙◌, ap, add-one, append_assoc, Some, nat_eq, Bor, Name, name_eq, Stmt, Database, stmt_at, name_at, decode, AreDistinct, Hypothesis, Float, Essential, AreBelow, AreNumberedHypotheses, IsStatementOf, CodeImages, code_image, code_apply, image, apply, same-number, Image, codes, code_images, named_expressions, image_at, images_read, code_image_at, code_images_read, named_images, AreVariablesBelow, decode-append}
+use Rattle.explain.proofs.Words.{◌≡◌, ℕ, zero, suc, ◌<◌, Bool, true, false, cond, List, [], ◌∷◌, ◌++◌, length, drop, get_or, map, refl, sym, ◌∙◌, ap, subst, arith, Some, slice_get, nat_eq, list_all, ◌&&◌, ◌||◌, Name, name_eq, Stmt, Database, stmt_at, name_at, decode, AreDistinct, Hypothesis, Float, Essential, AllBelow, AreBelow, AreNumberedHypotheses, IsStatementOf, CodeImages, Images, code_image, code_apply, image, apply, are_disjoint, are_groups_disjoint, is_group_disjoint, same-number, below-append, image_at, images_read, decode-append}
 use Rattle.mm_read.specs.declared.stmt.Stmt.TheVariants as stmt
+use Rattle.std.proofs.lemmas.List.Folds.{list_all-map}
+use Rattle.subst.specs.DisjointImages.{are_numbers_disjoint, are_two_disjoint, image_named}
+use Rattle.verify.specs.HypothesisResults.{AreDifferent, AreGiven, code_image_at, code_images_read}
 
 decode-drop : (names : List Name) (e : List ℕ) → decode names (drop 1 e) ≡ drop 1 (decode names e)
 decode-drop names [] = refl
 decode-drop names (x ∷ e) = refl
 
+-- images by number as images of names
+abbrev named_images : List Name → CodeImages → Images
+named_images names σ = map (λ p. (name_at names p.0, decode names p.1)) σ
+
+-- the number of each variable is that of a name, below n
+abbrev AreVariablesBelow : ℕ → CodeImages → Type 0
+AreVariablesBelow n [] = Unit {0}
+AreVariablesBelow n (p ∷ σ) = (p.0 < n) × AreVariablesBelow n σ
+
 named-append : (names : List Name) (σ τ : CodeImages) → named_images names (σ ++ τ) ≡ named_images names σ ++ named_images names τ
 named-append names [] τ = refl
 named-append names (p ∷ σ) τ = ap (λ r. (name_at names p.0, decode names p.1) ∷ r) (named-append names σ τ)
 
--- ---- substitution by number and by name
+-- the image of a number, decoded, is the image of its name
+image_same : (names : List Name) (distinct : AreDistinct names) (σ : CodeImages) (x : ℕ) → AreVariablesBelow (length names) σ → x < length names → decode names (code_image σ x) ≡ image (named_images names σ) (name_at names x)
+image_same names distinct [] x h l = refl
+image_same names distinct (p ∷ σ) x h l = by (nat_eq x p.0) refl (image_same names distinct σ x h.1 l)
+  where
+    same : nat_eq x p.0 ≡ name_eq (name_at names x) (name_at names p.0)
+    same = same-number names x p.0 distinct l h.0
 
-module _ (names : List Name) (distinct : AreDistinct names) where
-  -- the image of a number, decoded, is the image of its name
-  pub image_same : (σ : CodeImages) (x : ℕ) → AreVariablesBelow (length names) σ → x < length names → decode names (code_image σ x) ≡ image (named_images names σ) (name_at names x)
-  image_same [] x h l = refl
-  image_same (p ∷ σ) x h l = by (nat_eq x p.0) refl (image_same σ x h.1 l)
-    where
-      same : nat_eq x p.0 ≡ name_eq (name_at names x) (name_at names p.0)
-      same = same-number names x p.0 distinct l h.0
-
-      by : (b : Bool) → nat_eq x p.0 ≡ b → decode names (code_image σ x) ≡ image (named_images names σ) (name_at names x)
-          → decode names (cond (nat_eq x p.0) p.1 (code_image σ x)) ≡ cond (name_eq (name_at names x) (name_at names p.0)) (decode names p.1) (image (named_images names σ) (name_at names x))
-      by true e rest = ap (λ b. decode names (cond b p.1 (code_image σ x))) e ∙ sym (ap (λ b. cond b (decode names p.1) (image (named_images names σ) (name_at names x))) (sym same ∙ e))
-      by false e rest = ap (λ b. decode names (cond b p.1 (code_image σ x))) e ∙ (rest ∙ sym (ap (λ b. cond b (decode names p.1) (image (named_images names σ) (name_at names x))) (sym same ∙ e)))
-
-  -- decoding after substitution by number is substitution by name after decoding
-  pub apply_same : (σ : CodeImages) (e : List ℕ) → AreVariablesBelow (length names) σ → AreBelow (length names) e → decode names (code_apply σ e) ≡ apply (named_images names σ) (decode names e)
-  apply_same σ [] h l = refl
-  apply_same σ (x ∷ e) h l =
-      decode-append names (code_image σ x) (code_apply σ e)
-      ∙ (ap (λ r. r ++ decode names (code_apply σ e)) (image_same σ x h l.0) ∙ ap (λ r. image (named_images names σ) (name_at names x) ++ r) (apply_same σ e h l.1))
+    by : (b : Bool) → nat_eq x p.0 ≡ b → decode names (code_image σ x) ≡ image (named_images names σ) (name_at names x)
+        → decode names (cond (nat_eq x p.0) p.1 (code_image σ x)) ≡ cond (name_eq (name_at names x) (name_at names p.0)) (decode names p.1) (image (named_images names σ) (name_at names x))
+    by true e rest = ap (λ b. decode names (cond b p.1 (code_image σ x))) e ∙ sym (ap (λ b. cond b (decode names p.1) (image (named_images names σ) (name_at names x))) (sym same ∙ e))
+    by false e rest = ap (λ b. decode names (cond b p.1 (code_image σ x))) e ∙ (rest ∙ sym (ap (λ b. cond b (decode names p.1) (image (named_images names σ) (name_at names x))) (sym same ∙ e)))
 
 -- ---- the images that are read
 
@@ -41,35 +43,16 @@ image_is : (S : Database) (names : List Name) (p : ℕ) (s : Stmt) (h : Hypothes
 image_is S names p (stmt.Float l c v) (Float x) e stands is =
     (ap (λ y. (y, decode names (drop 1 e)) ∷ []) is.1 ∙ (ap (λ d. (v, d) ∷ []) (decode-drop names e) ∙ ap (λ o. image_at o (decode names e)) (sym stands)), (is.0, tt))
 image_is S names p (stmt.Ess l e') (Essential q) e stands is = (ap (λ o. image_at o (decode names e)) (sym stands), tt)
-image_is S names p (stmt.Float l c v) (Essential q) e stands is = absurd is
-image_is S names p (stmt.Ess l e') (Float x) e stands is = absurd is
-image_is S names p stmt.Open (Float x) e stands is = absurd is
-image_is S names p stmt.Open (Essential q) e stands is = absurd is
-image_is S names p stmt.Close (Float x) e stands is = absurd is
-image_is S names p stmt.Close (Essential q) e stands is = absurd is
-image_is S names p (stmt.Const w) (Float x) e stands is = absurd is
-image_is S names p (stmt.Const w) (Essential q) e stands is = absurd is
-image_is S names p (stmt.Var w) (Float x) e stands is = absurd is
-image_is S names p (stmt.Var w) (Essential q) e stands is = absurd is
-image_is S names p (stmt.Disj w) (Float x) e stands is = absurd is
-image_is S names p (stmt.Disj w) (Essential q) e stands is = absurd is
-image_is S names p (stmt.Axiom l w) (Float x) e stands is = absurd is
-image_is S names p (stmt.Axiom l w) (Essential q) e stands is = absurd is
-image_is S names p (stmt.Prove l w r) (Float x) e stands is = absurd is
-image_is S names p (stmt.Prove l w r) (Essential q) e stands is = absurd is
+image_is S names p s h e stands is = absurd is
 
 variables-append : (n : ℕ) (σ τ : CodeImages) → AreVariablesBelow n σ → AreVariablesBelow n τ → AreVariablesBelow n (σ ++ τ)
 variables-append n [] τ h k = k
 variables-append n (p ∷ σ) τ h k = (h.0, variables-append n σ τ h.1 k)
 
 -- the images that all hypotheses give from their results are the same by number and by name
-pub images_are : (S : Database) (names : List Name) (ps typecodes : List ℕ) (hs : List Hypothesis) (es : List (List ℕ)) → AreNumberedHypotheses S names ps typecodes hs
+images_are : (S : Database) (names : List Name) (ps typecodes : List ℕ) (hs : List Hypothesis) (es : List (List ℕ)) → AreNumberedHypotheses S names ps typecodes hs
     → (named_images names (code_images_read hs es) ≡ images_read S ps (map (decode names) es)) × AreVariablesBelow (length names) (code_images_read hs es)
 images_are S names [] [] [] es required = (refl, tt)
-images_are S names [] (x ∷ typecodes) hs es required = absurd required
-images_are S names [] [] (h ∷ hs) es required = absurd required
-images_are S names (p ∷ ps) [] hs es required = absurd required
-images_are S names (p ∷ ps) (x ∷ typecodes) [] es required = absurd required
 images_are S names (p ∷ ps) (x ∷ typecodes) (h ∷ hs) [] required = (refl, tt)
 images_are S names (p ∷ ps) (x ∷ typecodes) (h ∷ hs) (e ∷ es) required =
     let one = image_is S names p required.0.stmt h e required.0.stands required.0.is in
@@ -78,62 +61,104 @@ images_are S names (p ∷ ps) (x ∷ typecodes) (h ∷ hs) (e ∷ es) required =
           ∙ (ap (λ σ. σ ++ named_images names (code_images_read hs es)) one.0 ∙ ap (λ τ. image_at (stmt_at S p) (decode names e) ++ τ) rest.0),
       variables-append (length names) (code_image_at h e) (code_images_read hs es) one.1 rest.1,
     )
+images_are S names ps typecodes hs es required = absurd required
 
--- ---- numbers with the same names are the same
+-- the image of each number, decoded, is the image of its name
+pub record AreSame (names : List Name) (σ : CodeImages) (τ : Images) : Type 0 where
+  pub each : (n : ℕ) → n < length names → decode names (code_image σ n) ≡ image τ (name_at names n)
 
--- ---- one more result is read
+pub given_same : (S : Database) (names : List Name) (distinct : AreDistinct names) (ps typecodes : List ℕ) (hs : List Hypothesis) (rs : List (List ℕ)) (σ : CodeImages)
+    → AreNumberedHypotheses S names ps typecodes hs → AreGiven hs rs σ → AreSame names σ (images_read S ps (map (decode names) rs))
+given_same S names distinct ps typecodes hs rs σ numbered given = record {
+  each = λ n low. (let are = images_are S names ps typecodes hs rs numbered in
+      ap (decode names) (given.each n) ∙ (image_same names distinct (code_images_read hs rs) n are.1 low ∙ ap (λ τ. image τ (name_at names n)) are.0));
+}
 
--- the images of the remaining results are those of the next one and those after it
-read_step : (kinds : List Hypothesis) (results : List (Bor (List ℕ))) (k : ℕ) (h : Hypothesis) → k < length kinds → k < length results
-    → get_or kinds k (Float 0) ≡ h → (r : Bor (List ℕ)) → r ≡ get_or results k r
-    → code_images_read (drop k kinds) (codes (drop k results)) ≡ code_image_at h r.now ++ code_images_read (drop (suc k) kinds) (codes (drop (suc k) results))
-read_step [] results k h within inside is r here = absurd (omega (arith, within))
-read_step (x ∷ kinds) [] k h within inside is r here = absurd (omega (arith, inside))
-read_step (x ∷ kinds) (y ∷ results) zero h within inside is r here =
-    ap (λ z. code_image_at z y.now ++ code_images_read kinds (codes results)) is ∙ ap (λ (v : Bor (List ℕ)). code_image_at h v.now ++ code_images_read kinds (codes results)) (sym here)
-read_step (x ∷ kinds) (y ∷ results) (suc k) h within inside is r here = read_step kinds results k h (omega (arith, within)) (omega (arith, inside)) is r here
+-- decoding after substitution by number is substitution by name after decoding
+pub apply_same : (names : List Name) (σ : CodeImages) (τ : Images) (e : List ℕ) → AreSame names σ τ → AreBelow (length names) e → decode names (code_apply σ e) ≡ apply τ (decode names e)
+apply_same names σ τ [] same l = refl
+apply_same names σ τ (x ∷ e) same l =
+    decode-append names (code_image σ x) (code_apply σ e)
+    ∙ (ap (λ r. r ++ decode names (code_apply σ e)) (same.each x l.0) ∙ ap (λ r. image τ (name_at names x) ++ r) (apply_same names σ τ e same l.1))
 
--- when the result for a `$f` is read, the images so far and those of the remaining results stay the
--- same list
-pub read_more : (kinds : List Hypothesis) (results : List (Bor (List ℕ))) (k x : ℕ) (old new : List Image) (image : Image) (whole : CodeImages) → k < length kinds → k < length results
-    → get_or kinds k (Float 0) ≡ Float x → (r : Bor (List ℕ)) → r ≡ get_or results k r → image.variable ≡ x → image.symbols.now ≡ drop 1 r.now → new ≡ old ++ image ∷ []
-    → code_images old ++ code_images_read (drop k kinds) (codes (drop k results)) ≡ whole
-    → code_images new ++ code_images_read (drop (k + 1) kinds) (codes (drop (k + 1) results)) ≡ whole
-read_more kinds results k x old new image whole within inside is r here variable symbols added e =
-    let rest : CodeImages = code_images_read (drop (suc k) kinds) (codes (drop (suc k) results)) in
-    let step = read_step kinds results k (Float x) within inside is r here in
-    let pair : ◌≡◌ {A = ℕ × List ℕ} (image.variable, image.symbols.now) (x, drop 1 r.now) = ap (λ v. (v, image.symbols.now)) variable ∙ ap (λ d. (x, d)) symbols in
-    ap (λ n. code_images new ++ code_images_read (drop n kinds) (codes (drop n results))) (add-one k)
-    ∙ (ap (λ l. code_images l ++ rest) added
-    ∙ (ap (λ l. l ++ rest) (map-append old image)
-    ∙ (append_assoc (code_images old) ((image.variable, image.symbols.now) ∷ []) rest
-    ∙ (ap (λ p. code_images old ++ (p ∷ rest)) pair
-    ∙ (ap (λ l. code_images old ++ l) (sym step) ∙ e)))))
+-- ---- numbers of the images
+
+drop-below : (n : ℕ) (e : List ℕ) → AreBelow n e → AreBelow n (drop 1 e)
+drop-below n [] h = tt
+drop-below n (x ∷ e) h = h.1
+
+read-below : (n x : ℕ) (hs : List Hypothesis) (rs : List (List ℕ)) → x < n → AllBelow n rs → AreBelow n (code_image (code_images_read hs rs) x)
+read-below n x [] rs l h = (l, tt)
+read-below n x (y ∷ hs) [] l h = (l, tt)
+read-below n x (Essential q ∷ hs) (r ∷ rs) l h = read-below n x hs rs l h.1
+read-below n x (Float y ∷ hs) (r ∷ rs) l h = by (nat_eq x y) (read-below n x hs rs l h.1)
   where
-    map-append : (old : List Image) (image : Image) → code_images (old ++ image ∷ []) ≡ code_images old ++ (image.variable, image.symbols.now) ∷ []
-    map-append [] image = refl
-    map-append (y ∷ old) image = ap (λ l. (y.variable, y.symbols.now) ∷ l) (map-append old image)
+    by : (b : Bool) → AreBelow n (code_image (code_images_read hs rs) x) → AreBelow n (cond b (drop 1 r) (code_image (code_images_read hs rs) x))
+    by true rest = drop-below n r h.0
+    by false rest = rest
 
--- the result for a `$e` gives no image
-pub read_skip : (kinds : List Hypothesis) (results : List (Bor (List ℕ))) (k : ℕ) (images : List Image) (whole : CodeImages) → k < length kinds → k < length results
-    → ((x : ℕ) → get_or kinds k (Float 0) ≡ Float x → ⊥)
-    → code_images images ++ code_images_read (drop k kinds) (codes (drop k results)) ≡ whole
-    → code_images images ++ code_images_read (drop (k + 1) kinds) (codes (drop (k + 1) results)) ≡ whole
-read_skip kinds results k images whole within inside not e =
-    ap (λ n. code_images images ++ code_images_read (drop n kinds) (codes (drop n results))) (add-one k)
-    ∙ (ap (λ l. code_images images ++ l) (sym (go kinds results k within inside not)) ∙ e)
+pub given-below : (n x : ℕ) (hs : List Hypothesis) (rs : List (List ℕ)) (σ : CodeImages) → AreGiven hs rs σ → AllBelow n rs → x < n → AreBelow n (code_image σ x)
+given-below n x hs rs σ given low l = subst (AreBelow n) (sym (given.each x)) (read-below n x hs rs l low)
+
+pub apply-below : (n : ℕ) (σ : CodeImages) (e : List ℕ) → ((x : ℕ) → x < n → AreBelow n (code_image σ x)) → AreBelow n e → AreBelow n (code_apply σ e)
+apply-below n σ [] over k = tt
+apply-below n σ (x ∷ e) over k = below-append n (code_image σ x) (code_apply σ e) (over x k.0) (apply-below n σ e over k.1)
+
+-- ---- the image of one number
+
+other-number : (a b : ℕ) → (a ≡ b → ⊥) → nat_eq a b ≡ false
+other-number a b ne = by (nat_eq a b) refl
   where
-    none : (h : Hypothesis) (e : List ℕ) → ((x : ℕ) → h ≡ Float x → ⊥) → code_image_at h e ≡ []
-    none (Float x) e not = absurd (not x refl)
-    none (Essential q) e not = refl
+    by : (t : Bool) → nat_eq a b ≡ t → t ≡ false
+    by true e = absurd (ne (grind (arith, e)))
+    by false e = refl
 
-    go : (kinds : List Hypothesis) (results : List (Bor (List ℕ))) (k : ℕ) → k < length kinds → k < length results → ((x : ℕ) → get_or kinds k (Float 0) ≡ Float x → ⊥)
-        → code_images_read (drop k kinds) (codes (drop k results)) ≡ code_images_read (drop (suc k) kinds) (codes (drop (suc k) results))
-    go [] results k within inside not = absurd (omega (arith, within))
-    go (x ∷ kinds) [] k within inside not = absurd (omega (arith, inside))
-    go (x ∷ kinds) (y ∷ results) zero within inside not = ap (λ l. l ++ code_images_read kinds (codes results)) (none x y.now not)
-    go (x ∷ kinds) (y ∷ results) (suc k) within inside not = go kinds results k (omega (arith, within)) (omega (arith, inside)) not
+own-number : (a : ℕ) → nat_eq a a ≡ true
+own-number a = grind arith
 
-pub named-codes : (names : List Name) (vs : List (Bor (List ℕ))) → map (decode names) (codes vs) ≡ named_expressions names vs
-named-codes names [] = refl
-named-codes names (v ∷ vs) = ap (λ l. decode names v.now ∷ l) (named-codes names vs)
+-- a number that is no variable of a `$f` is its own image
+pub read-own : (x : ℕ) (hs : List Hypothesis) (rs : List (List ℕ)) → ((k : ℕ) → slice_get hs k ≡ Some (Float x) → ⊥) → code_image (code_images_read hs rs) x ≡ x ∷ []
+read-own x [] rs none = refl
+read-own x (h ∷ hs) [] none = refl
+read-own x (Essential q ∷ hs) (r ∷ rs) none = read-own x hs rs (λ k e. none (suc k) e)
+read-own x (Float y ∷ hs) (r ∷ rs) none =
+    ap (λ b. cond b (drop 1 r) (code_image (code_images_read hs rs) x)) (other-number x y (λ e. none zero (ap (λ z. Some (Float z)) (sym e)))) ∙ read-own x hs rs (λ k e. none (suc k) e)
+
+-- the image of the variable of a `$f` is its result without the typecode
+pub read-float : (x k : ℕ) (hs : List Hypothesis) (rs : List (List ℕ)) → AreDifferent hs → slice_get hs k ≡ Some (Float x) → length rs ≡ length hs → code_image (code_images_read hs rs) x ≡ drop 1 (get_or rs k [])
+read-float x k [] rs different at count = absurd (cc)
+read-float x k (h ∷ hs) [] different at count = absurd (omega (arith, count))
+read-float x zero (Essential q ∷ hs) (r ∷ rs) different at count = absurd (cc)
+read-float x (suc k) (Essential q ∷ hs) (r ∷ rs) different at count = read-float x k hs rs (record { each = λ i j y p q. (let e = different.each (suc i) (suc j) y p q in omega (arith, e)) }) at (omega (arith, count))
+read-float x zero (Float y ∷ hs) (r ∷ rs) different at count =
+    let same : y ≡ x = cc in ap (λ b. cond b (drop 1 r) (code_image (code_images_read hs rs) x)) (ap (nat_eq x) same ∙ own-number x)
+read-float x (suc k) (Float y ∷ hs) (r ∷ rs) different at count =
+    ap (λ b. cond b (drop 1 r) (code_image (code_images_read hs rs) x)) (other-number x y (λ e. (let two = different.each zero (suc k) x (ap (λ z. Some (Float z)) (sym e)) at in absurd (omega (arith, two)))))
+    ∙ read-float x k hs rs (record { each = λ i j y p q. (let e = different.each (suc i) (suc j) y p q in omega (arith, e)) }) at (omega (arith, count))
+
+-- ---- the disjoint variable condition
+
+all-below : (n : ℕ) (p q : ℕ → Bool) (xs : List ℕ) → AreBelow n xs → ((k : ℕ) → k < n → p k ≡ q k) → list_all p xs ≡ list_all q xs
+all-below n p q [] b h = refl
+all-below n p q (x ∷ xs) b h = ap (λ r. r && list_all p xs) (h x b.0) ∙ ap (λ r. q x && r) (all-below n p q xs b.1 h)
+
+module _ (names : List Name) (distinct : AreDistinct names) (D : Database) (σ : CodeImages) (τ : Images) (same : AreSame names σ τ) where
+  two-named : (k l : ℕ) → k < length names → l < length names
+      → are_two_disjoint D (image_named names σ) k l ≡ (name_eq (name_at names k) (name_at names l) || are_disjoint D (image τ (name_at names k)) (image τ (name_at names l)))
+  two-named k l hk hl =
+      ap (λ b. b || are_disjoint D (image_named names σ k) (image_named names σ l)) (same-number names k l distinct hk hl)
+      ∙ (ap (λ e. name_eq (name_at names k) (name_at names l) || are_disjoint D e (image_named names σ l)) (same.each k hk)
+      ∙ ap (λ e. name_eq (name_at names k) (name_at names l) || are_disjoint D (image τ (name_at names k)) e) (same.each l hl))
+
+  group-named : (g : List ℕ) → AreBelow (length names) g → are_numbers_disjoint D (image_named names σ) g ≡ is_group_disjoint D τ (decode names g)
+  group-named g b = simp list_all-map (
+      all-below (length names) (λ k. list_all (are_two_disjoint D (image_named names σ) k) g) (λ k. list_all (λ l. name_eq (name_at names k) (name_at names l) || are_disjoint D (image τ (name_at names k)) (image τ (name_at names l))) g) g b
+      (λ k hk. all-below (length names) (are_two_disjoint D (image_named names σ) k) (λ l. name_eq (name_at names k) (name_at names l) || are_disjoint D (image τ (name_at names k)) (image τ (name_at names l))) g b (λ l hl. two-named k l hk hl))
+      )
+
+  -- groups are disjoint by number exactly if they are by name
+  pub groups_same : (gs : List (List ℕ)) → AllBelow (length names) gs → list_all (are_numbers_disjoint D (image_named names σ)) gs ≡ are_groups_disjoint D τ (map (decode names) gs)
+  groups_same [] b = refl
+  groups_same (g ∷ gs) b =
+      ap (λ r. r && list_all (are_numbers_disjoint D (image_named names σ)) gs) (group-named g b.0)
+      ∙ ap (λ r. is_group_disjoint D τ (decode names g) && r) (groups_same gs b.1)

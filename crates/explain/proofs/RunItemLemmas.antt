@@ -1,7 +1,7 @@
 -- The fault of an item that cannot be done.
-use Rattle.explain.proofs.Words.{◌≡◌, ℕ, zero, suc, ◌+◌, ◌-◌, ◌<◌, ◌≤◌, cond, List, [], ◌∷◌, ◌++◌, length, take, get_or, arith, refl, sym, ◌∙◌, ap, subst, Some, None, Option, slice_get, IfOk, MatchOption, Result, Ok, Err, add-one, Vec, Name, Stmt, Database, Expr, decode, AreDistinct, Carries, IsPosition, ArePositions, Item, Cite, Recall, Mark, item_of, items_of, ItemFault, UnknownLabel, Inactive, NotEarlier, TooFewResults, OtherTypecode, OtherExpression, NotDisjoint, TooManySymbols, NoMarkedResult, IsCitationFault, IsLabelCitationFault, IsItemFault, CitationGives, of_hypothesis, of_assertion, take_more, slice_get-map, SYMBOLS_LIMIT, lt-ltb, le-ltb, stmt_at, same_Some}
+use Rattle.explain.proofs.Words.{◌≡◌, ℕ, zero, suc, ◌+◌, ◌-◌, ◌<◌, ◌≤◌, cond, List, [], ◌∷◌, ◌++◌, length, take, get_or, arith, refl, sym, ◌∙◌, ap, subst, Some, None, Option, slice_get, Name, Stmt, Database, Expr, Carries, IsPosition, ArePositions, Item, Cite, Recall, Mark, item_of, items_of, ItemFault, UnknownLabel, Inactive, NotEarlier, TooFewResults, OtherTypecode, OtherExpression, NotDisjoint, TooManySymbols, NoMarkedResult, IsCitationFault, IsLabelCitationFault, CitationGives, of_hypothesis, of_assertion, take_more, slice_get-map, SYMBOLS_LIMIT, le-ltb, stmt_at, same_Some}
 use Rattle.verify.specs.Machine.{State, Cites, of_hypothesis as cites_hypothesis, of_assertion as cites_assertion, RunsItem, with_result, with_mark}
-use Rattle.verify.proofs.Words.{take_all, length-append, length-map, option_map, slice_get-get_or, slice_get_within}
+use Rattle.verify.proofs.Words.{take_all, option_map, slice_get-get_or}
 
 -- ---- the positions of labels
 

@@ -1,5 +1,6 @@
 -- The item or the end where the run stops is the first fault.
-use Rattle.explain.proofs.Words.{nat_lt, nat_tests, ◌≡◌, ◌≢◌, Bool, true, false, ℕ, zero, suc, ◌+◌, ◌-◌, ◌<◌, ◌≤◌, List, [], ◌∷◌, ◌++◌, length, map, take, get_or, arith, refl, sym, ◌∙◌, ap, subst, Option, Some, None, slice_get, Vec, Name, Stmt, Database, Expr, decode, stmt_at, expr_of, Carries, Item, Cite, Recall, Mark, item_of, items_of, ItemFault, TooManySymbols, NoMarkedResult, UnknownLabel, Reason, CitationGives, IsItemFault, RunsWithinLimit, IsFirstFault, IsPosition, ArePositions, Results, State, start, IsSaved, Runs, IsStopped, item-cite, get_or_default, same_Some, SYMBOLS_LIMIT}
+use Rattle.explain.proofs.Words.{nat_lt, nat_tests, ◌≡◌, Bool, true, false, ℕ, suc, ◌+◌, ◌-◌, ◌<◌, ◌≤◌, List, [], ◌∷◌, length, map, take, get_or, arith, refl, sym, ◌∙◌, ap, subst, Option, Some, None, slice_get, Name, Stmt, Database, Expr, decode, stmt_at, Carries, Item, Cite, Recall, Mark, item_of, items_of, ItemFault, TooManySymbols, NoMarkedResult, Reason, CitationGives, IsItemFault, RunsWithinLimit, IsFirstFault, IsPosition, ArePositions, Results, State, IsStopped, item-cite, get_or_default, same_Some, SYMBOLS_LIMIT, ◌≢◌, zero, ◌++◌, Vec, expr_of, UnknownLabel, start, IsSaved, Runs}
+use Rattle.explain.proofs.CitationFaultLemmas.{excerpt_named}
 use Rattle.explain.specs.declared.reason.Reason.TheVariants as reason
 use Rattle.explain.specs.FirstFault.{IsEndReason}
 use Rattle.explain.proofs.RunItemLemmas.{mark_fails, recall_heavy, cite_stuck, recall_item, what_is, found-at}
@@ -62,8 +63,14 @@ module _ (S : Database) (names : List Name) (at : ℕ) (items : List Item) (st :
   pub first_end : (r : Reason) → IsEndReason st.stack r → IsFirstFault S names at s items r
   first_end (reason.Item k fault) is = absurd is
   first_end (reason.ResultCount count) is = (held S names at items (length items) st stopped, whole, is.0 ∙ sym (length-map st.stack (decode names)), is.1)
-  first_end (reason.OtherTheorem proved) is =
-      (held S names at items (length items) st stopped, whole, ap (map (decode names)) is, λ same. other (ap (map (decode names)) is ∙ ap (λ e. e ∷ []) same))
+  first_end (reason.OtherTheorem proved) is = (
+    held S names at items (length items) st stopped,
+    decode names is.0,
+    whole,
+    ap (map (decode names)) is.1,
+    λ same. other (ap (map (decode names)) is.1 ∙ ap (λ e. e ∷ []) same),
+    excerpt_named names is.0 proved is.2,
+  )
 
 -- ---- items by their numbers
 
@@ -93,7 +100,7 @@ pub position_at : (S : Database) (labels : List Name) (positions : List (Option 
 position_at S labels positions k d o are less is = subst (IsPosition S (get_or labels k [])) (get_or_default positions k None d less ∙ sym is) (found-at S labels positions k are less)
 
 -- a stack of one result
-pub one_result : (stack : List (List ℕ)) (e proved : List ℕ) → length stack ≡ 1 → slice_get stack 0 ≡ Some e → proved ≡ e → stack ≡ proved ∷ []
-one_result [] e proved one there same = absurd (omega (arith, one))
-one_result (x ∷ []) e proved one there same = ap (λ y. y ∷ []) (same_Some x e there ∙ sym same)
-one_result (x ∷ y ∷ r) e proved one there same = absurd (omega (arith, one))
+pub one_result : (stack : List (List ℕ)) (e : List ℕ) → length stack ≡ 1 → slice_get stack 0 ≡ Some e → stack ≡ e ∷ []
+one_result [] e one there = absurd (omega (arith, one))
+one_result (x ∷ []) e one there = ap (λ y. y ∷ []) (same_Some x e there)
+one_result (x ∷ y ∷ r) e one there = absurd (omega (arith, one))

@@ -14,16 +14,11 @@ wrong_is S names at a s rs (NotDisjoint b x y u v) h = absurd h
 wrong_is S names at a s rs TooManySymbols h = absurd h
 wrong_is S names at a s rs NoMarkedResult h = absurd h
 
-module _ {T S : Database} {ns names : List Name} {σ τ : Images} {gs hs : List (List Name)} (same : T ≡ S) (named : ns ≡ names) (images : σ ≡ τ) (lists : gs ≡ hs) where
-  -- a violation stays one if statements, names, images and groups are replaced with equal ones
-  pub violation_moved : (c : DisjointViolation) → IsViolation T ns σ gs c → IsViolation S names τ hs c
-  violation_moved c is =
-      subst (λ l. IsViolation S names τ l c) lists
-      (subst (λ i. IsViolation S names i gs c) images
-      (subst (λ n. IsViolation S n σ gs c) named
-      (subst (λ D. IsViolation D ns σ gs c) same is)))
+module _ {T S : Database} {ns names : List Name} (σ : Images) {gs hs : List (List Name)} (same : T ≡ S) (named : ns ≡ names) (lists : gs ≡ hs) where
+  -- a violation stays one if statements, names and groups are replaced with equal ones
+  pub violation_moved : (c : DisjointViolation) → IsViolation T ns σ gs c → IsViolation S names σ hs c
+  violation_moved c is = subst (λ l. IsViolation S names σ l c) lists (subst (λ n. IsViolation S n σ gs c) named (subst (λ D. IsViolation D ns σ gs c) same is))
 
-  -- groups stay disjoint if statements, images and groups are replaced with equal ones
-  pub disjoint_moved : are_groups_disjoint T σ gs ≡ true → are_groups_disjoint S τ hs ≡ true
-  disjoint_moved is =
-      sym (ap (λ D. are_groups_disjoint D σ gs) same ∙ (ap (λ i. are_groups_disjoint S i gs) images ∙ ap (λ l. are_groups_disjoint S τ l) lists)) ∙ is
+  -- groups stay disjoint if statements and groups are replaced with equal ones
+  pub disjoint_moved : are_groups_disjoint T σ gs ≡ true → are_groups_disjoint S σ hs ≡ true
+  disjoint_moved is = sym (ap (λ D. are_groups_disjoint D σ gs) same ∙ ap (λ l. are_groups_disjoint S σ l) lists) ∙ is

@@ -3,12 +3,13 @@
 -- Source: Metamath, 4.2.6 and appendix B; the limit is this project's.
 -- The code stops at this fault.
 use Rattle.std.specs.Prelude.{◌≡◌, ◌≢◌, ℕ, ◌+◌, ◌<◌, ◌≤◌, true, IsTrue, List, [], ◌∷◌, ◌++◌, length, take, Some, slice_get}
-use Rattle.explain.specs.Words.{Name, Stmt, Expr, Database, before, expr_of, is_assertion, decode, hypotheses, Carries, IsHypothesis, Item, Cite, Recall, Mark, Numbered, HeldResults, SYMBOLS_LIMIT, State, start, IsSaved, Runs}
+use Rattle.explain.specs.Words.{Name, Stmt, Expr, Database, before, expr_of, is_assertion, hypotheses, Carries, IsHypothesis, Item, Cite, Recall, Mark, Numbered, HeldResults, SYMBOLS_LIMIT, State, start, IsSaved, Runs}
 use Rattle.explain.specs.declared.reason.ItemFault.{ItemFault}
 use Rattle.explain.specs.declared.reason.ItemFault.TheVariants.{UnknownLabel, Inactive, NotEarlier, TooFewResults, OtherTypecode, OtherExpression, NotDisjoint, TooManySymbols, NoMarkedResult}
 use Rattle.explain.specs.declared.reason.Reason.{Reason}
 use Rattle.explain.specs.declared.reason.Reason.TheVariants as reason
 use Rattle.explain.specs.CitationResults.{CitationGives, named_results}
+use Rattle.explain.specs.Excerpts.{IsExcerpt, IsExcerptOf}
 use Rattle.explain.specs.WrongResults.{IsResultsFault}
 
 -- the last results on the stack, one for each mandatory hypothesis of the earlier assertion s at a,
@@ -80,10 +81,11 @@ IsFirstFault S names at s items (reason.Item k fault) =
     (h : State) × (item : Item) × RunsWithinLimit S at (take k items) h × (slice_get items k ≡ Some item) × IsItemFault S names at h item fault
 IsFirstFault S names at s items (reason.ResultCount count) = (h : State) × RunsWithinLimit S at items h × (count ≡ length h.stack) × (count ≢ 1)
 IsFirstFault S names at s items (reason.OtherTheorem proved) =
-    (h : State) × RunsWithinLimit S at items h × (h.stack ≡ decode names proved.items ∷ []) × (decode names proved.items ≢ expr_of s)
+    (h : State) × (e : Expr) × RunsWithinLimit S at items h × (h.stack ≡ e ∷ []) × (e ≢ expr_of s) × IsExcerptOf names e proved
 
--- the number of results at the end is not one, or the only result, by number, is this one
+-- the number of results at the end is not one, or this is the beginning of the only result, by
+-- number
 abbrev pub IsEndReason : List (List ℕ) → Reason → Type 0
 IsEndReason stack (reason.ResultCount count) = (count ≡ length stack) × (count ≢ 1)
-IsEndReason stack (reason.OtherTheorem proved) = stack ≡ proved.items ∷ []
+IsEndReason stack (reason.OtherTheorem proved) = (e : List ℕ) × (stack ≡ e ∷ []) × IsExcerpt e proved
 IsEndReason stack r = ⊥

@@ -2,12 +2,11 @@ pub mod Words
 pub mod Breaks
 pub mod LettersBefore
 pub mod Why
+pub mod Excerpts
 pub mod ReadImages
-pub mod ImageIndexes
-pub mod VariableLists
+pub mod LastResults
 pub mod DisjointViolations
 pub mod CitationFaults
 pub mod WrongResults
 pub mod CitationResults
 pub mod FirstFault
-pub mod Stored

@@ -11,22 +11,20 @@
 //! In `CodeBreak`, `code_break`, `broken_code` and `WhyUnproved::Code`, code is proof code; any
 //! other code is the number of a symbol.
 //!
-//! Reading order: `why`, `proof_fault`, `broken_code`, `broken_letters`; then `reason`, `images`,
-//! `variable_lists`, `disjoint_pairs`, `violation`, `citation`, `run`.
+//! Reading order: `why`, `proof_fault`, `broken_code`, `broken_letters`; then `excerpt`, `reason`,
+//! `citation`, `run`.
 #![tactic(auto)]
 
 mod broken_code;
 mod broken_letters;
 mod citation;
-mod disjoint_pairs;
-mod images;
+mod excerpt;
 mod proof_fault;
 mod reason;
 mod run;
-mod variable_lists;
-mod violation;
 mod why;
 
+pub use excerpt::{EXCERPT_LEN, Excerpt};
 pub use proof_fault::explain;
 pub use reason::{ItemFault, Reason};
 pub use run::first_fault;

@@ -21,9 +21,8 @@ use verify::{Answer, Checker};
 
 /// Returns why the tokens do not prove the `$p` at a position, or `None` if they do.
 ///
-/// Errors: an allocation fails; an expression that a hypothesis requires has more than
-/// `SYMBOLS_LIMIT` symbols; the label of a mandatory hypothesis is not a word; or there are more
-/// than 2^30 tokens, mandatory labels or letters. Cost: that of verifying the proof, of
+/// Errors: an allocation fails; the label of a mandatory hypothesis is not a word; or there are
+/// more than 2^30 tokens, mandatory labels or letters. Cost: that of verifying the proof, of
 /// `first_fault` and of `code_break`.
 pub fn explain(
     alloc: Global,

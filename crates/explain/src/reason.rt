@@ -1,5 +1,7 @@
 //! Why a proof is wrong.
 
+use crate::excerpt::Excerpt;
+
 /// Why a proof is wrong. Statements are given by their positions, counted from 1, symbols by their
 /// numbers in `Frames`.
 #[derive(Debug, Drop)]
@@ -9,7 +11,7 @@ pub enum Reason {
     /// The number of results on the stack at the end is `count`, and not 1.
     ResultCount { count: usize },
     /// The only result at the end is not the theorem's expression.
-    OtherTheorem { proved: Vec<u32> },
+    OtherTheorem { proved: Excerpt },
 }
 
 /// A fault of an item.
@@ -35,15 +37,15 @@ pub enum ItemFault {
     OtherTypecode {
         assertion: usize,
         hypothesis: usize,
-        result: Vec<u32>,
+        result: Excerpt,
     },
-    /// The result is not the expression that the hypothesis requires: that of the hypothesis under
-    /// the substitution.
+    /// The result for a `$e` is not the expression that the `$e` requires: its own under the
+    /// substitution.
     OtherExpression {
         assertion: usize,
         hypothesis: usize,
-        required: Vec<u32>,
-        result: Vec<u32>,
+        required: Excerpt,
+        result: Excerpt,
     },
     /// The variables `first` and `second` of the assertion must be disjoint, but `in_first_image`
     /// occurs in the image of `first` and `in_second_image` in that of `second`, and these two are

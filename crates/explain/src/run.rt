@@ -9,6 +9,7 @@ ghost use Rattle.verify.specs.Right.{IsProvable, IsRight};
 ghost use Rattle.verify.specs.Stops.{IsNotOnly, IsStopped};
 
 use crate::citation::citation_fault;
+use crate::excerpt::Excerpt;
 use crate::reason::{ItemFault, Reason};
 use frame::Frames;
 use proof_code::Items;
@@ -18,11 +19,8 @@ use verify::{Failure, Results, first_failure};
 /// Returns the first fault of the run over the items of a proof of the `$p` at a position, or
 /// `None` if they are a right proof of it.
 ///
-/// Errors: an allocation fails, or the expression that a hypothesis requires has more than
-/// `SYMBOLS_LIMIT` symbols.
-/// Cost: that of `verify::check`, and that of the one citation that fails: the lengths of the
-/// results that it takes, log n for each symbol of its n hypotheses, and a comparison of the images
-/// of each two variables that must be disjoint.
+/// Errors: an allocation fails. Cost: that of `verify::check`, and once more that of the citation
+/// that fails.
 pub fn first_fault(
     alloc: Global,
     frames: &Frames,
@@ -37,8 +35,8 @@ pub fn first_fault(
         return Ok(None);
     };
     match failure {
-        Failure::Item { item, results } => {
-            let fault = item_fault(alloc, frames, at, items, item, &results)?;
+        Failure::Item { item, mut results } => {
+            let fault = item_fault(alloc, frames, at, items, item, &mut results)?;
             Ok(Some(Reason::Item { item, fault }))
         }
         Failure::End { results } => Ok(Some(end_reason(alloc, &results)?)),
@@ -53,12 +51,12 @@ fn item_fault(
     at: usize,
     items: &Items,
     item: usize,
-    results: &Results,
+    results: &mut Results,
 ) -> Result<ItemFault, AllocError>
     requires position { (1 ≤ at) × (at ≤ length frames.now.statements) }
     requires item { item < length items.now }
-    requires stopped { IsStopped frames.now.statements at frames.now.names items.now item results.now.results }
-    ensures { (failing : Item) → slice_get items.now item ≡ Some failing → IfOk result (IsItemFaultAfter frames.now at results.now failing) }
+    requires stopped { IsStopped frames.now.statements at frames.now.names items.now item results.old.results }
+    ensures { (failing : Item) → slice_get items.now item ≡ Some failing → IfOk result (IsItemFaultAfter frames.now at results.old failing) }
 {
     let parts = items.parts();
     let number = parts.numbers[item] as usize;
@@ -96,6 +94,6 @@ fn end_reason(alloc: Global, results: &Results) -> Result<Reason, AllocError>
     if count != 1 {
         return Ok(Reason::ResultCount { count });
     }
-    let proved = Vec::from_slice(alloc, results.get(0))?;
+    let proved = Excerpt::new(alloc, results.get(0))?;
     Ok(Reason::OtherTheorem { proved })
 }

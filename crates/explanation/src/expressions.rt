@@ -1,30 +1,48 @@
 //! Writes expressions, given as symbol numbers, in symbols.
 
 use crate::written_lines::Lines;
+use explain::{EXCERPT_LEN, Excerpt};
 use frame::Frames;
-
-/// The largest number of symbols that are written of an expression.
-const MAX_SYMBOLS: usize = 400;
 
 /// The largest number of bytes that are written of an expression, with a space before each symbol.
 const MAX_EXPRESSION_BYTES: usize = 4_096;
 
-/// Writes the symbols of an expression, with a space before each. Truncates a long one before the
-/// first symbol that would exceed either limit, and writes how many symbols it has.
+/// Writes the symbols of an expression, with a space before each. Truncates a long one after
+/// `EXCERPT_LEN` symbols, or before the first symbol that would exceed `MAX_EXPRESSION_BYTES`, and
+/// writes how many symbols it has.
 ///
 /// Cost: the bytes that are written.
 pub(crate) fn push_expression(lines: &mut Lines<'_>, frames: &Frames, expr: &[u32]) {
+    let first = expr.get(..EXCERPT_LEN).unwrap_or(expr);
+    push_symbols(lines, frames, first, expr.len());
+}
+
+/// Writes an expression by its excerpt, as `push_expression` does.
+pub(crate) fn push_excerpt(lines: &mut Lines<'_>, frames: &Frames, excerpt: &Excerpt) {
+    push_symbols(lines, frames, excerpt.symbols.as_slice(), excerpt.len);
+}
+
+/// Writes the first symbols of an expression, which has this number of symbols.
+fn push_symbols(lines: &mut Lines<'_>, frames: &Frames, first: &[u32], len: usize) {
     let mut remaining = MAX_EXPRESSION_BYTES;
-    for (index, number) in expr.iter().enumerate() {
+    for number in first {
         let symbol = frames.symbol(*number);
-        if index == MAX_SYMBOLS || symbol.len() >= remaining {
-            lines.push(b" .. (");
-            lines.push_number(expr.len());
-            lines.push(b" symbols)");
+        if symbol.len() >= remaining {
+            push_cut(lines, len);
             return;
         }
         lines.push(b" ");
         lines.push(symbol);
         remaining -= symbol.len() + 1;
     }
+    if first.len() < len {
+        push_cut(lines, len);
+    }
+}
+
+/// Writes that an expression with this number of symbols is truncated.
+fn push_cut(lines: &mut Lines<'_>, len: usize) {
+    lines.push(b" .. (");
+    lines.push_number(len);
+    lines.push(b" symbols)");
 }

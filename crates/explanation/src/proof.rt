@@ -9,14 +9,14 @@ ghost use Rattle.mm_read.specs.Statements.{AreShaped};
 ghost use Rattle.verify.specs.Right.{IsProvable};
 
 use crate::code_break::explain_break;
-use crate::expressions::push_expression;
+use crate::expressions::{push_excerpt, push_expression};
 use crate::item_spots::{spot_of, step_of};
 use crate::statement_symbols::token_at;
 use crate::step_fault::push_fault;
 use crate::text_tokens::TextTokens;
 use crate::theorem::Theorem;
 use crate::written_lines::Lines;
-use explain::{ItemFault, Reason, WhyUnproved, explain};
+use explain::{Excerpt, ItemFault, Reason, WhyUnproved, explain};
 use frame::Frames;
 use mm_read::{ReadFault, Stmt, read};
 use proof_code::Items;
@@ -109,12 +109,7 @@ fn explain_reason(
             explain_step(lines, frames, theorem, items, *item, fault);
         }
         Reason::ResultCount { count } => explain_result_count(lines, theorem, *count),
-        Reason::OtherTheorem { proved } => explain_other_theorem(
-            lines,
-            frames,
-            theorem,
-            proved.as_slice(),
-        ),
+        Reason::OtherTheorem { proved } => explain_other_theorem(lines, frames, theorem, proved),
     }
 }
 
@@ -145,11 +140,11 @@ fn explain_other_theorem(
     lines: &mut Lines<'_>,
     frames: &Frames,
     theorem: &Theorem<'_>,
-    proved: &[u32],
+    proved: &Excerpt,
 ) {
     theorem.push_end(lines);
     lines.push(b" is wrong at its end\n  it proves");
-    push_expression(lines, frames, proved);
+    push_excerpt(lines, frames, proved);
     lines.push(b"\n  but ");
     lines.push(theorem.label);
     lines.push(b" says");

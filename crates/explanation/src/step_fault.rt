@@ -1,9 +1,9 @@
 //! Writes in words why a step of a proof fails.
 
-use crate::expressions::push_expression;
+use crate::expressions::push_excerpt;
 use crate::theorem::Theorem;
 use crate::written_lines::Lines;
-use explain::ItemFault;
+use explain::{Excerpt, ItemFault};
 use frame::Frames;
 
 /// Writes the fault of the step, each line indented by two spaces.
@@ -30,20 +30,13 @@ pub(crate) fn push_fault(
             hypothesis,
             result,
             ..
-        } => push_other_typecode(lines, theorem, frames, *hypothesis, result.as_slice()),
+        } => push_other_typecode(lines, theorem, frames, *hypothesis, result),
         ItemFault::OtherExpression {
             hypothesis,
             required,
             result,
             ..
-        } => push_other_expression(
-            lines,
-            theorem,
-            frames,
-            *hypothesis,
-            required.as_slice(),
-            result.as_slice(),
-        ),
+        } => push_other_expression(lines, theorem, frames, *hypothesis, required, result),
         ItemFault::NotDisjoint {
             first,
             second,
@@ -102,7 +95,7 @@ fn push_other_typecode(
     theorem: &Theorem<'_>,
     frames: &Frames,
     hypothesis: usize,
-    actual: &[u32],
+    actual: &Excerpt,
 ) {
     push_hypothesis(lines, theorem, hypothesis);
     lines.push(b" asks for a result that begins with ");
@@ -116,19 +109,19 @@ fn push_other_expression(
     theorem: &Theorem<'_>,
     frames: &Frames,
     hypothesis: usize,
-    required: &[u32],
-    actual: &[u32],
+    required: &Excerpt,
+    actual: &Excerpt,
 ) {
     push_hypothesis(lines, theorem, hypothesis);
     lines.push(b" asks for");
-    push_expression(lines, frames, required);
+    push_excerpt(lines, frames, required);
     push_actual(lines, frames, actual);
 }
 
 /// Writes the result that is there instead.
-fn push_actual(lines: &mut Lines<'_>, frames: &Frames, expr: &[u32]) {
+fn push_actual(lines: &mut Lines<'_>, frames: &Frames, actual: &Excerpt) {
     lines.push(b"\n  but the result there is");
-    push_expression(lines, frames, expr);
+    push_excerpt(lines, frames, actual);
     lines.push(b"\n");
 }
 

@@ -26,6 +26,10 @@ each-all p (x ∷ xs) u all has = elim (cases_eq u x) [
   | inr other ↦ each-all p xs u (and_parts (p x) (list_all p xs) all).1 (ap (λ b. b || has_number xs u) (sym (ne_eqb u x other)) ∙ has)
 ]
 
+-- the number at an index of a list is in the list
+pub has-at : (xs : List ℕ) (k : ℕ) → k < length xs → has_number xs (get_or xs k 0) ≡ true
+has-at xs k low = list_any_at (λ c. get_or xs k 0 == c) xs k 0 low (let own : (get_or xs k 0 == get_or xs k 0) ≡ true = grind arith in own)
+
 -- ---- two images
 
 abbrev pub is_good : Numbered → ℕ → ℕ → Bool

@@ -7,7 +7,7 @@ abbrev pub by_place : List ℕ → ℕ → Option SymbolRange → List ℕ
 by_place symbols x None = x ∷ []
 by_place symbols x (Some p) = symbols_in symbols p
 
-image-by_place : (symbols : List ℕ) (ps : List (ℕ × SymbolRange)) (x : ℕ) → code_image (images_at symbols ps) x ≡ by_place symbols x (lookup (nat_eq x) ps)
+pub image-by_place : (symbols : List ℕ) (ps : List (ℕ × SymbolRange)) (x : ℕ) → code_image (images_at symbols ps) x ≡ by_place symbols x (lookup (nat_eq x) ps)
 image-by_place symbols [] x = refl
 image-by_place symbols (p ∷ ps) x = elim (cases_Bool (nat_eq x p.0)) [ inl e ↦ rw e refl | inr e ↦ rw e (image-by_place symbols ps x) ]
 

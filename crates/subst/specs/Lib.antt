@@ -4,3 +4,4 @@ pub mod Images
 pub mod DisjointImages
 pub mod Laws
 pub mod Stored
+pub mod Violations

@@ -21,11 +21,11 @@ use std::alloc::{AllocError, Global};
 #[derive(Drop)]
 pub struct DisjointImages {
     /// The variables of the images that were read in this citation.
-    images: VariableLists,
+    pub(crate) images: VariableLists,
     /// The variables of the images with which one image is compared.
-    others: Vec<u32>,
+    pub(crate) others: Vec<u32>,
     /// The variables that are in an active `$d` with one variable.
-    row: SymbolSet,
+    pub(crate) row: SymbolSet,
 }
 
 impl DisjointImages {
@@ -90,7 +90,7 @@ impl DisjointImages {
     }
 
     /// Lists the variables of the images of the others in a list than x.
-    fn collect_others(
+    pub(crate) fn collect_others(
         &mut self,
         pairs: &Pairs<'_>,
         symbols: &[u32],
@@ -145,7 +145,11 @@ fn are_pairs(
 /// Makes the row of a variable the set: the other symbols of the active `$d` that have it.
 ///
 /// Errors: an allocation fails. Cost: these symbols.
-fn read_row(row: &mut SymbolSet, pairs: &Pairs<'_>, variable: u32) -> Result<(), AllocError>
+pub(crate) fn read_row(
+    row: &mut SymbolSet,
+    pairs: &Pairs<'_>,
+    variable: u32,
+) -> Result<(), AllocError>
     requires { variable < length pairs.now.names }
     ensures { OnOk result (IsRowOf pairs.now variable row.new) }
 {

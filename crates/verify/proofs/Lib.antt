@@ -9,6 +9,7 @@ pub mod ImageLemmas
 pub mod CitingLemmas
 pub mod CitationLemmas
 pub mod ReadImageLemmas
+pub mod GivenImageLemmas
 pub mod Named
 pub mod StepLemmas
 pub mod MandatoryEntries

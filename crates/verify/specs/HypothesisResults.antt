@@ -3,7 +3,7 @@
 -- variable.
 -- The code checks first symbols, reads the images from the results, and compares each `$e` under
 -- them with its result.
-use Rattle.std.specs.Prelude.{◌≡◌, ℕ, ◌<◌, Bool, true, false, IsTrue, List, [], ◌∷◌, length, map, drop, get_or, slice_get, Some}
+use Rattle.std.specs.Prelude.{◌≡◌, ℕ, ◌<◌, Bool, true, false, IsTrue, List, [], ◌∷◌, length, map, drop, get_or, slice_get, Some, ◌++◌}
 use Rattle.verify.specs.Words.{decode, Stmt, Expr, Database, stmt_at, Images, applied, CodeImages, code_image, expr_at, Hypothesis, Float, Essential, typecode_of, Numbered, images_of_names}
 use Rattle.verify.specs.ResultPlaces.{HeldResults, top}
 
@@ -45,6 +45,21 @@ pub record AreRead (typecodes : List ℕ) (hs : List Hypothesis) (rs : List (Lis
 abbrev pub Reads : Bool → List ℕ → List Hypothesis → List (List ℕ) → CodeImages → Type 0
 Reads true typecodes hs rs σ = AreRead typecodes hs rs σ
 Reads false typecodes hs rs σ = (k : ℕ) × (x : ℕ) × (slice_get hs k ≡ Some (Float x)) × (IsTyped (get_or typecodes k 0) (get_or rs k []) → ⊥)
+
+-- the image that a result gives, by number
+abbrev pub code_image_at : Hypothesis → List ℕ → CodeImages
+code_image_at (Float x) e = (x, drop 1 e) ∷ []
+code_image_at (Essential q) e = []
+
+-- the images that the results give, by number
+abbrev pub code_images_read : List Hypothesis → List (List ℕ) → CodeImages
+code_images_read [] es = []
+code_images_read (h ∷ hs) [] = []
+code_images_read (h ∷ hs) (e ∷ es) = code_image_at h e ++ code_images_read hs es
+
+-- each symbol has the image that the results give it, whatever they begin with
+pub record AreGiven (hs : List Hypothesis) (rs : List (List ℕ)) (σ : CodeImages) : Type 0 where
+  pub each : (x : ℕ) → code_image σ x ≡ code_image (code_images_read hs rs) x
 
 -- the result for a `$e` is its expression with the images substituted
 abbrev pub HypothesisMatches : Database → Images → Hypothesis → Expr → Type 0

@@ -1,16 +1,19 @@
 //! The results of a proof so far, as ranges of one buffer.
 
-ghost use Rattle.std.specs.Prelude.{take, List, ℕ, suc, ◌≡◌, ◌<◌, ◌≤◌, ◌↔◌, ◌∷◌, ◌++◌, [], length, slice_get, nat_eq, ◌==◌, Some, is_some, if◌then◌else◌, IfOk, IfSome, OnOk, OnErr, IsTrue};
+ghost use Rattle.std.specs.Prelude.{take, List, ℕ, suc, ◌≡◌, ◌<◌, ◌≤◌, ◌↔◌, ◌∷◌, ◌++◌, [], length, slice_get, nat_eq, ◌==◌, Some, is_some, if◌then◌else◌, IfOk, IfSome, OnOk, OnErr, IsTrue, drop, get_or, map, true, MatchOption};
 ghost use Rattle.frame.specs.AtPosition.{HasLegalProperties};
 ghost use Rattle.frame.specs.Below.{AllBelow, AreBelow};
 ghost use Rattle.frame.specs.ListsOfPairs.{is_numbered_pair};
 ghost use Rattle.frame.specs.MandatoryPairs.{pair_lists};
-ghost use Rattle.frame.specs.Substitution.{code_apply};
+ghost use Rattle.frame.specs.Substitution.{code_apply, code_image};
 ghost use Rattle.names.specs.Codes.{AreDistinct};
+ghost use Rattle.std.specs.List.{list_all};
 ghost use Rattle.std.specs.Map.{lookup};
 ghost use Rattle.subst.specs.Images.{AreOver, are_numbered_lists_disjoint};
-ghost use Rattle.subst.specs.SymbolRanges.{AreInside, AreWithin};
-ghost use Rattle.verify.specs.HypothesisResults.{AreDifferent, ArePresent, HasSeenEssentials, LastResultsMatch, Reads};
+ghost use Rattle.subst.specs.SymbolRanges.{AreInside, AreWithin, images_at, symbols_in};
+ghost use Rattle.verify.specs.HypothesisResults.{AreDifferent, ArePresent, HasSeenEssentials, LastResultsMatch, Reads, AreGiven};
+ghost use Rattle.subst.specs.DisjointImages.{are_numbers_disjoint, image_named};
+ghost use Rattle.subst.specs.Violations.{IsViolation};
 ghost use Rattle.verify.specs.ReadPlaces.{BeginsWith, ReadsAll, tail_of};
 ghost use Rattle.verify.specs.ResultPlaces.{Adds, IsKept, Marks, Recalls, below, top};
 ghost use Rattle.verify.specs.Right.{weight_limit};
@@ -22,7 +25,8 @@ use frame::{Frames, PairBuffer, Pairs};
 use std::alloc::{AllocError, Global};
 use std::marker::Model;
 use subst::{
-    Buffer, DisjointImages, ImageRanges, SYMBOLS_LIMIT, SymbolRange, range_between, symbols_at,
+    Buffer, DisjointImages, DisjointViolation, ImageRanges, SYMBOLS_LIMIT, SymbolRange,
+    first_violation, range_between, symbols_at,
 };
 
 /// The results of a proof so far, with their symbols in one buffer, and the images that were read
@@ -350,6 +354,59 @@ impl Results {
         self.saved.len()
     }
 
+    /// Reads the images of the variables of the `$f` from the last results, one for each
+    /// hypothesis, whatever these begin with. A later result for the same variable does not count.
+    ///
+    /// Errors: an allocation fails. Cost: a step for each hypothesis.
+    pub fn read_untyped(&mut self, hypotheses: &Hypotheses<'_>) -> Result<(), AllocError>
+        requires { length hypotheses.now ≤ length self.old.results.stack }
+        ensures same { self.new.results ≡ self.old.results }
+        ensures read { OnOk result (AreGiven hypotheses.now (top (length hypotheses.now) self.old.results.stack) self.new.images) }
+    {
+        let places = &self.stack[self.stack.len() - hypotheses.len()..];
+        read_tails(&mut self.images, hypotheses, places)
+    }
+
+    /// Returns the image of a symbol, or `None` if it has none and is its own image.
+    pub fn image(&self, symbol: u32) -> Option<&[u32]>
+        ensures { MatchOption result (code_image self.now.images symbol ≡ symbol ∷ []) (λ image. image.now ≡ code_image self.now.images symbol) }
+    {
+        match self.images.get(symbol) {
+            Some(range) => Some(symbols_at(self.symbols.as_slice(), range)),
+            None => None,
+        }
+    }
+
+    /// Returns whether the result at that index of the stack, from 0 at its bottom, is the
+    /// expression with the images substituted.
+    ///
+    /// Cost: that of `Buffer::matches`.
+    pub fn matches(&self, index: usize, expr: &[u32]) -> bool
+        requires { index < length self.now.results.stack }
+        ensures { IsTrue result ↔ (get_or self.now.results.stack index [] ≡ code_apply self.now.images expr.now) }
+    {
+        self.symbols.matches(&self.images, expr, self.stack[index])
+    }
+
+    /// Returns two variables of one of the groups whose images are not disjoint at the statement of
+    /// the pairs, or `None` if there are none.
+    ///
+    /// Errors: an allocation fails. Cost: that of `subst::first_violation`.
+    pub fn first_violation(
+        &self,
+        alloc: Global,
+        pairs: &Pairs<'_>,
+        groups: &Groups<'_>,
+    ) -> Result<Option<DisjointViolation>, AllocError>
+        requires over { AreOver pairs.now.names self.now.images }
+        requires below { AllBelow (length pairs.now.names) groups.now }
+        ensures { IfOk result (λ found. MatchOption found
+            (list_all (are_numbers_disjoint pairs.now.statements (image_named pairs.now.names self.now.images)) groups.now ≡ true)
+            (IsViolation pairs.now self.now.images groups.now)) }
+    {
+        first_violation(alloc, pairs, groups, &self.symbols, &self.images)
+    }
+
     /// Returns whether the expression is the only result on the stack.
     pub fn is_only(&self, expr: &[u32]) -> bool
         ensures only { IsTrue result ↔ (self.now.results.stack ≡ expr.now ∷ []) }
@@ -443,4 +500,42 @@ fn read_off(
         }
     }
     Ok(Some(has_essentials))
+}
+
+/// Returns the range without its first symbol, if it has one.
+fn without_first(range: SymbolRange) -> SymbolRange
+    requires { range.start ≤ range.end }
+    ensures inside { (result.start ≤ result.end) × (result.end ≡ range.end) }
+    ensures symbols { (symbols : List ℕ) → symbols_in symbols result ≡ drop 1 (symbols_in symbols range) }
+{
+    if range.start == range.end {
+        return range;
+    }
+    SymbolRange {
+        start: range.start + 1,
+        end: range.end,
+    }
+}
+
+/// Sets the images of the variables of all `$f`, and no others, to their results without the first
+/// symbols; of two results for one variable the first one counts.
+///
+/// Errors: an allocation fails. Cost: a step for each hypothesis.
+fn read_tails(
+    images: &mut ImageRanges,
+    hypotheses: &Hypotheses<'_>,
+    places: &[SymbolRange],
+) -> Result<(), AllocError>
+    requires same { length places.now ≡ length hypotheses.now }
+    requires within { (n : ℕ) × AreWithin n places.now }
+    ensures read { (symbols : List ℕ) → OnOk result (AreGiven hypotheses.now (map (symbols_in symbols) places.now) (images_at symbols images.new)) }
+    ensures inside { (n : ℕ) → AreWithin n places.now → AreInside n images.new }
+{
+    images.clear();
+    for k in (0..hypotheses.len()).rev() {
+        if let Hypothesis::Float(variable) = hypotheses.get(k) {
+            images.set(variable, without_first(places[k]))?;
+        }
+    }
+    Ok(())
 }

@@ -1,4 +1,4 @@
-use Rattle.explain.proofs.Words.{get_or, sym, Mark}
+use Rattle.explain.proofs.Words.{get_or, Mark}
 use Rattle.verify.proofs.Words.{slice_get-get_or}
 use Rattle.explain.proofs.StoppedLemmas.{first_at, first_end}
 use Rattle.explain.proofs.run.first_fault.Goals as goal

@@ -1,5 +1,5 @@
-use Rattle.explain.proofs.Words.{◌≡◌, ◌-◌, List, [], length, get_or, arith, sym, ◌∙◌, subst, None, Some, slice_get, Cite, IfOk-weaker, UnknownLabel, IsItemFault, same_Some}
-use Rattle.explain.proofs.RunItemLemmas.{found-length, found-at, cited_fails}
+use Rattle.explain.proofs.Words.{◌≡◌, ◌-◌, [], get_or, arith, sym, ◌∙◌, subst, Some, slice_get, Cite, IfOk-weaker, UnknownLabel, IsItemFault, same_Some}
+use Rattle.explain.proofs.RunItemLemmas.{found-length, cited_fails}
 use Rattle.explain.proofs.StoppedLemmas.{held, fails_mark, fails_recall, cannot_cite, mark_there, recall_there, cite_there, position_at}
 use Rattle.explain.proofs.run.item_fault.Goals as goal
 
