@@ -35,7 +35,8 @@ pub struct DisjointViolation {
 /// ranges of the buffer.
 ///
 /// Errors: an allocation fails, or the images have more than 4,294,967,295 variables.
-/// Cost: at most that of `DisjointImages::is_disjoint` for each variable of a group and those before it, and the symbols of the images again.
+/// Cost: at most that of `DisjointImages::is_disjoint` for each variable of a group and those before
+/// it, and the symbols of the images again.
 /// Source: Metamath, 4.2.6.
 pub fn first_violation(
     alloc: Global,
