@@ -110,8 +110,8 @@ pub struct AssertionView<'a> {
     pub hypotheses: Hypotheses<'a>,
     /// The symbols of the assertion's expression.
     pub conclusion: &'a [u32],
-    /// Whether `pairs` has all mandatory pairs of the assertion. Else it is empty: they are too many
-    /// to be written out.
+    /// Whether `pairs` has all mandatory pairs of the assertion. Else it is empty: they are too
+    /// many to be written out.
     pub pairs_listed: bool,
     /// The mandatory pairs, as lists: a variable, and those whose images must be disjoint from its
     /// own.

@@ -74,7 +74,7 @@ fn add_pairs(
     requires below { AreBelow (length pairs.now.names) pair_buffer.old.variables }
     requires empty { cut grouped_variables.old.items groups.old.items ≡ [] }
     requires within { AreSpansIn (length grouped_variables.old.items) groups.old.items }
-    ensures added { IfOk result (λ whole. whole ≡ true → AreReordered (pairs_by (is_numbered_pair pairs.now) pair_buffer.old.variables) (cut grouped_variables.new.items groups.new.items)) }
+    ensures added { IfOk result (λ ok. ok ≡ true → AreReordered (pairs_by (is_numbered_pair pairs.now) pair_buffer.old.variables) (cut grouped_variables.new.items groups.new.items)) }
     ensures within { AreSpansIn (length grouped_variables.new.items) groups.new.items }
 {
     for index in 0..pair_buffer.len() {
@@ -144,8 +144,8 @@ fn fill_whole(storage: &Storage, at: usize, buffers: &mut FrameBuffers) -> Resul
 }
 
 /// Finds the parts of an assertion or `$e` that is appended to the statements, by the numbers of
-/// its symbols: all mandatory hypotheses and pairs of an assertion if these are few; else, and for a
-/// `$e`, the `$f` of its own variables. Other statements have none.
+/// its symbols: all mandatory hypotheses and pairs of an assertion if these are few; else, and for
+/// a `$e`, the `$f` of its own variables. Other statements have none.
 ///
 /// Errors: an allocation fails.
 pub fn fill_parts(
@@ -208,6 +208,6 @@ fn fill_own(storage: &Storage, buffers: &mut FrameBuffers, codes: &[u32]) -> Res
     )
 }
 
-/// The parts of an assertion are kept whole only if its mandatory hypotheses, and the numbers in the
-/// lists of its mandatory pairs, are together at most this many.
+/// The parts of an assertion are kept whole only if its mandatory hypotheses, and the numbers in
+/// the lists of its mandatory pairs, are together at most this many.
 const MAX_KEPT: usize = 64;

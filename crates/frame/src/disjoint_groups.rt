@@ -13,8 +13,8 @@ use scope::Stack;
 use std::alloc::{AllocError, Global};
 use std::marker::Model;
 
-/// The groups of an assertion, as they are printed: for each active `$d` its mandatory variables, if
-/// they are two or more. Contracts see the list of the groups, by numbers.
+/// The groups of an assertion, as they are printed: for each active `$d` its mandatory variables,
+/// if they are two or more. Contracts see the list of the groups, by numbers.
 #[derive(Drop)]
 pub struct DisjointGroups {
     /// The variables of the groups, one group after another.
@@ -72,8 +72,8 @@ fn add_group(
     Ok(())
 }
 
-/// Returns, for each `$d` that is active at `at`, those of its symbols that are among the variables,
-/// if they are two or more.
+/// Returns, for each `$d` that is active at `at`, those of its symbols that are among the
+/// variables, if they are two or more.
 ///
 /// Errors: an allocation fails. Cost: the symbols of the active `$d`.
 pub fn find_groups(

@@ -171,8 +171,8 @@ impl Frames {
         }
     }
 
-    /// Returns the parts of the assertion at a position, by numbers. Those that are not kept with it
-    /// are made in the buffers, but its pairs are not: `PairBuffer` makes them one by one.
+    /// Returns the parts of the assertion at a position, by numbers. Those that are not kept with
+    /// it are made in the buffers, but its pairs are not: `PairBuffer` makes them one by one.
     ///
     /// Errors: an allocation fails. Cost: a constant; for parts that are not kept, the mandatory
     /// hypotheses, which are sorted.
@@ -216,8 +216,8 @@ impl Frames {
         )
     }
 
-    /// Returns the parts of the assertion at a position, from the buffers that `fill_buffers` filled
-    /// for it.
+    /// Returns the parts of the assertion at a position, from the buffers that `fill_buffers`
+    /// filled for it.
     fn buffered_view<'a>(&'a self, a: usize, buffers: &'a FrameBuffers) -> AssertionView<'a>
         requires assertion { (s : Statement) × HasAssertion self.now.statements a s }
         requires buffers { AreBuffersOf self.now.statements self.now.names a buffers.now }
@@ -235,8 +235,8 @@ impl Frames {
     /// Returns the groups of the assertion at a position: for each active `$d` its mandatory
     /// variables, if they are two or more.
     ///
-    /// Errors: an allocation fails. Cost: the mandatory hypotheses, which are sorted, and the symbols
-    /// of the active `$d`.
+    /// Errors: an allocation fails. Cost: the mandatory hypotheses, which are sorted, and the
+    /// symbols of the active `$d`.
     pub fn groups(&self, a: usize) -> Result<DisjointGroups, AllocError>
         requires { (s : Statement) × HasAssertion self.now.statements a s }
         ensures { IfOk result (λ groups. (s : Statement) → stmt_at self.now.statements a ≡ Some s → AreGroupsOf self.now.statements self.now.names a s groups) }

@@ -51,8 +51,8 @@ impl DisjointImages {
     }
 
     /// Returns whether the image of x is disjoint from those of the others in a list, at the
-    /// statement of the pairs: no variable is in both, and each pair of variables, one from each, is
-    /// in an active `$d`. The images are ranges of the symbols, the same since `begin_citation`.
+    /// statement of the pairs: no variable is in both, and each pair of variables, one from each,
+    /// is in an active `$d`. The images are ranges of the symbols, the same since `begin_citation`.
     ///
     /// Errors: an allocation fails, or the images have more than 4,294,967,295 variables.
     /// Cost: a look-up for each of the others; each image that was not read in this citation; for

@@ -2,8 +2,8 @@ use Rattle.proof_pages.proofs.BlockWords.{◌∙◌, ap, bare, map, decode}
 use Rattle.proof_pages.proofs.FrameLemmas.{on_ok, stands_bare, has_assertion, groups_are}
 use Rattle.proof_pages.proofs.frame_lines.push_disjoint.Goals as goal
 
-pub groups-groups-requires : goal.groups-groups-requires
-groups-groups-requires c =
+pub groups-requires : goal.groups-requires
+groups-requires c =
     let s = c.args.input.now in
     (bare s.statement.now, has_assertion s.statements.now s.frames.now.statements s.position s.statement.now c.requires.input.same c.requires.input.stands c.requires.assertion)
 
