@@ -2,7 +2,7 @@
 ghost use Rattle.net.specs.Laws.{BallotsHaveOneValue, ChosenValuesPersist, ChosenValuesAgree, LogEntriesAreChosen, LogsOfNodesAgree, LogEntriesWereOffered, KeptPartSurvives, LogsOnlyGrow, RestartEmptiesLog};
 
 /// States agreement after any events of which none meets a fault, whatever was lost, repeated or
-/// delayed and whichever nodes restarted, for any weights and any values.
+/// delayed and whichever nodes restarted, for any weights, any limit on events and any values.
 ///
 /// Source: Lamport, Paxos Made Simple, section 2.2.
 pub fn agreement<V>()

@@ -17,7 +17,7 @@ mod net;
 mod node_state;
 mod staged;
 
-pub use event::{Event, MAX_EVENTS};
+pub use event::Event;
 pub use fault::StepFault;
 pub use laws::{agreement, kept_part, logs_grow};
 pub use net::Net;
