@@ -86,7 +86,7 @@ module _ {V : Type 0} (count : ℕ) (w : World V) (counted : w.event_count ≡ c
   counts_delivered (Some p) = counts_at p.to (λ n. Ok (on_packet n p)) (slice_get w.nodes p.to)
 
   -- each event raises the count of events by one
-  counts_happens_at : (size : V → ℕ) (e : Event V) → Counts (event_result_without_limit size w e)
+  pub counts_happens_at : (size : V → ℕ) (e : Event V) → Counts (event_result_without_limit size w e)
   counts_happens_at size (Offer k v) = counts_at k (λ n. offer_result size n v) (slice_get w.nodes k)
   counts_happens_at size (Begin k) = counts_at k begin_result (slice_get w.nodes k)
   counts_happens_at size (Deliver number) = counts_delivered (slice_get w.packets number)

@@ -60,7 +60,7 @@ module _ {V : Type 0} (size : V → ℕ) (w : World V) (k : ℕ) where
       (moves_at w p.to k (λ n. Ok (on_packet n p)) (λ n. body_kept n p.from p.body) (slice_get w.nodes p.to) refl))
 
   -- each event makes its change to the kept part of its node and of no other
-  happens_moves : (e : Event V) → IfTaken (event_result_without_limit size w e) (Happens size w k e)
+  pub happens_moves : (e : Event V) → IfTaken (event_result_without_limit size w e) (Happens size w k e)
   happens_moves (Offer j v) = as_happens (Offer j v) j refl (event_result_without_limit size w (Offer j v)) (moves_at w j k (λ n. offer_result size n v) (λ n. offered_kept n size v) (slice_get w.nodes j) refl)
   happens_moves (Begin j) = as_happens (Begin j) j refl (event_result_without_limit size w (Begin j)) (moves_at w j k begin_result (λ n. begun_kept n) (slice_get w.nodes j) refl)
   happens_moves (Deliver number) = happens_delivered number (slice_get w.packets number) refl

@@ -19,6 +19,6 @@ mod staged;
 
 pub use event::Event;
 pub use fault::StepFault;
-pub use laws::{agreement, kept_part, logs_grow};
+pub use laws::{agreement, crash, kept_part, logs_grow};
 pub use net::Net;
 pub use staged::StagedEvent;
