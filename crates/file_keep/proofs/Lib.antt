@@ -1,0 +1,5 @@
+pub mod Words
+pub mod RowLemmas
+pub mod TableLemmas
+pub mod CopyLemmas
+pub mod KeepLemmas

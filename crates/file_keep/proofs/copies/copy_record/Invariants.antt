@@ -1,0 +1,6 @@
+use Rattle.file_keep.proofs.Words.{◌≡◌, take, trimmed}
+use Rattle.file_keep.proofs.copies.copy_record.Given as goal
+
+-- the copy has the entries of the slots so far
+abbrev pub invariant-loop-slot : goal.invariant-loop-slot
+invariant-loop-slot g l = l.copy.kept.accepted ≡ trimmed (take l.slot l.source.kept.accepted)

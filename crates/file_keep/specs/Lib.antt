@@ -1,0 +1,5 @@
+pub mod Words
+pub mod Rows
+pub mod Tables
+pub mod Copies
+pub mod Keeps
