@@ -1,5 +1,5 @@
 -- The states of nodes, one by one.
-use Rattle.nodes.proofs.Words.{◌≡◌, ℕ, suc, ◌+◌, List, [], ◌∷◌, ◌++◌, length, subst, sym, ◌∙◌, arith}
+use Rattle.nodes.proofs.Words.{◌≡◌, ℕ, suc, ◌+◌, List, [], ◌∷◌, ◌++◌, length, subst, sym, arith}
 use Rattle.nodes.specs.Questions.{AreNodeStatuses, IsNodeStatus}
 use Rattle.world.specs.declared.health.NodeStatus.{NodeStatus}
 

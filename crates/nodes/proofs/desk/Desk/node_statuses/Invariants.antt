@@ -1,6 +1,6 @@
 use Rattle.nodes.proofs.Words.{◌≡◌, vec_len}
 use Rattle.nodes.specs.Questions.{AreNodeStatuses}
-use Rattle.nodes.proofs.questions.Desk.node_statuses.Given as goal
+use Rattle.nodes.proofs.desk.Desk.node_statuses.Given as goal
 
 -- the states are those of the nodes so far
 abbrev pub invariant-loop-index : goal.invariant-loop-index
