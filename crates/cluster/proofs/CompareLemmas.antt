@@ -3,7 +3,7 @@ use Rattle.cluster.proofs.Words.{◌≡◌, ◌+◌, ◌<◌, ◌≤◌, true, f
 
 module _ (s : SwitchView Carried) (w : World Carried) (is : world_of carried_size s ≡ Ok w) where
   abbrev history : History Carried
-  history = record { weights = s.weights; events = s.history }
+  history = record { weights = s.weights; event_limit = s.event_limit; events = s.history }
 
   -- the library of a cell is that of the log of its node
   of_log : (c : Cell) → Belongs c s → IsCell c → IsOfLog (entries_of (log w c.node)) c.node_library

@@ -1,6 +1,5 @@
 pub mod Words
 mod CellsLemmas
-mod CopiedSlotsLemmas
 mod CellLemmas
 mod CellTieLemmas
 mod CompareLemmas

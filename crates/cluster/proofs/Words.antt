@@ -3,7 +3,6 @@
 pub use Rattle.cluster.specs.Belongs.{Belongs, EachBelongs, IsAhead}
 pub use Rattle.cluster.specs.Cell.{AddsEntry, Cell, IsCell, TakesOver, new_cell, next_entry}
 pub use Rattle.cluster.specs.Cells.{new_cells}
-pub use Rattle.cluster.specs.CopiedSlots.{with_copied_slot}
 pub use Rattle.cluster.specs.Outcome.{first_with_key}
 pub use Rattle.library.specs.LibraryOf.{ReplicaState}
 pub use Rattle.library.specs.declared.entry.Entry.{Entry}

@@ -4,7 +4,7 @@
 -- their numbers.
 -- `nodes` keeps a cell and the switch under two locks; `belongs` tests whether the entries are a
 -- prefix of the log.
-use Rattle.std.specs.Prelude.{◌≡◌, ℕ, ◌+◌, ◌≤◌, Bool, true, false, List, [], ◌∷◌, ◌++◌, Option, Some, None, Result, Ok, Err, length, slice_get}
+use Rattle.std.specs.Prelude.{◌≡◌, ℕ, ◌≤◌, Bool, true, false, List, [], ◌∷◌, ◌++◌, Option, Some, None, Result, Ok, Err, length, slice_get}
 use Rattle.cluster.specs.Words.{SLOTS, Entry, Carried, StepFault, Memory, SwitchView, carried_size, entries_of, log_entry, world_of, NodeLibrary, new_node_library, IsOfLog}
 
 pub record Cell : Type 0 where

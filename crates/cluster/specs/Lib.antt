@@ -2,5 +2,4 @@ pub mod Words
 pub mod Cell
 pub mod Cells
 pub mod Belongs
-pub mod CopiedSlots
 pub mod Outcome

@@ -211,22 +211,23 @@ pub fn list_on(cell: &NodeCell) -> Result<Vec<Listed>, AllocError>
 }
 
 /// Creates a switch of new nodes, one for each weight, and their cells. There has to be one keep
-/// for each weight, with the record of a new node.
+/// for each weight, with the record of a new node. The switch takes at most `event_limit` events.
 ///
 /// Errors: `Memory`.
 pub fn cells<K: Keep<Carried>>(
     alloc: Global,
     weights: Weights,
+    event_limit: u64,
     keeps: Vec<K>,
 ) -> Result<(Switch<Carried, K>, Vec<NodeCell>), StepFault>
     requires count { length keeps.items ≡ length weights }
     requires new { AllByRecursion (λ keep. K.kept keep ≡ new_kept) keeps.items }
-    ensures switch { IfOk result (λ parts. parts.0 ≡ record { weights = weights; history = []; stores = new_views K.failures keeps.items }) }
+    ensures switch { IfOk result (λ parts. parts.0 ≡ record { weights = weights; event_limit = event_limit; history = []; stores = new_views K.failures keeps.items }) }
     ensures cells { IfOk result (λ parts. parts.1.items ≡ new_cells 0 weights) }
     ensures belong { IfOk result (λ parts. EachBelongs parts.1.items parts.0) }
     ensures only_memory { IsOkUnless result Memory }
 {
-    let switch = Switch::new(alloc, weights, keeps)?;
+    let switch = Switch::new(alloc, weights, event_limit, keeps)?;
     let cells = cells_of(alloc, weights)?;
     Ok((switch, cells))
 }

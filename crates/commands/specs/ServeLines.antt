@@ -1,11 +1,11 @@
 -- The lines of a script of `serve`.
 -- Source: this project's own form.
 -- The code takes the words one after another.
-use Rattle.std.specs.Prelude.{ℕ, List, codes, Option, Some, None, option_map, if◌then◌else◌}
+use Rattle.std.specs.Prelude.{ℕ, ◌&&◌, List, codes, Option, Some, None, option_map, if◌then◌else◌}
 use Rattle.std.specs.Str.{bytes_eq}
 use Rattle.commands.specs.declared.serve_line.ServeLine.{ServeLine}
-use Rattle.commands.specs.declared.serve_line.ServeLine.TheVariants.{Common, Settle, Add}
-use Rattle.commands.specs.LineWords.{Words, line_by_first_word, one_entry_id}
+use Rattle.commands.specs.declared.serve_line.ServeLine.TheVariants.{Common, Settle, Add, Health}
+use Rattle.commands.specs.LineWords.{Words, has_no_words, line_by_first_word, one_entry_id}
 use Rattle.commands.specs.declared.text_form.TextForm.{TextForm}
 use Rattle.commands.specs.declared.common_line.CommonLine.TheVariants.{Offer}
 use Rattle.commands.specs.Texts.{form_by}
@@ -21,7 +21,9 @@ add_form verb = form_by (codes "add") (codes "add-lines") (codes "add-bytes") ve
 
 -- the line without a text that `serve` has and `play` does not
 abbrev pub serve_only_line : List ℕ → Words → Option ServeLine
-serve_only_line verb ws = if bytes_eq verb (codes "settle") then option_map (λ e. Settle e) (one_entry_id ws) else None
+serve_only_line verb ws =
+    if bytes_eq verb (codes "settle") then option_map (λ e. Settle e) (one_entry_id ws) else (
+    if bytes_eq verb (codes "health") && has_no_words ws then Some Health else None)
 
 -- this line if it is one, else a line that both commands have
 abbrev pub line_or_common_line : Option ServeLine → List ℕ → Words → Option ServeLine

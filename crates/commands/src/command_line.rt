@@ -16,6 +16,13 @@ use std::alloc::{AllocError, Global};
 use synod::{MAX_NODES, Weights};
 use text::parse_number;
 
+/// The number of events that the nodes of `play` take, where `--max-events` gives no other.
+const DEFAULT_EVENT_LIMIT: u64 = 1_000_000;
+
+/// The greatest number that `--max-events` gives, and the number of events that the nodes of
+/// `serve` take.
+const MAX_EVENT_LIMIT: u64 = 1 << 32;
+
 /// Parses the words of a command line, without the program's own name.
 ///
 /// Errors: `Bad` if they are a bad command line or ask for help; `Memory` if an allocation fails.
@@ -71,9 +78,17 @@ fn request<'a>(alloc: Global, matches: &ArgMatches<'a>) -> Result<Request<'a>, C
         Some(("play", options)) => {
             let nodes = node_count(alloc, options)?;
             let weights = weights(alloc, options, nodes)?;
+            let event_limit = event_limit(alloc, options)?;
             match pictured_steps(alloc, options)? {
-                Some(steps) => Ok(Request::Picture { weights, steps }),
-                None => Ok(Request::Play { weights }),
+                Some(steps) => Ok(Request::Picture {
+                    weights,
+                    event_limit,
+                    steps,
+                }),
+                None => Ok(Request::Play {
+                    weights,
+                    event_limit,
+                }),
             }
         }
         Some(("serve", options)) => {
@@ -82,6 +97,7 @@ fn request<'a>(alloc: Global, matches: &ArgMatches<'a>) -> Result<Request<'a>, C
             let seed = weather_seed(alloc, options)?;
             Ok(Request::Serve(ServeOptions {
                 weights: weights(alloc, options, nodes)?,
+                event_limit: MAX_EVENT_LIMIT,
                 workers,
                 weather_seed: seed,
                 is_live: options.get_flag("live"),
@@ -184,6 +200,17 @@ fn worker_count(alloc: Global, options: &ArgMatches) -> Result<WorkerCount, Comm
     match number(options, "workers").and_then(WorkerCount::new) {
         Some(workers) => Ok(workers),
         None => Err(invalid_value(alloc, "--workers is a number from 1 to 16")),
+    }
+}
+
+/// Returns the number of events that the nodes of `play` take.
+fn event_limit(alloc: Global, options: &ArgMatches) -> Result<u64, CommandLineFault> {
+    if options.get_str("max-events").is_none() {
+        return Ok(DEFAULT_EVENT_LIMIT);
+    }
+    match number(options, "max-events") {
+        Some(limit) if 1 <= limit && limit <= MAX_EVENT_LIMIT => Ok(limit),
+        _ => Err(invalid_value(alloc, "--max-events is a number from 1 to 4294967296")),
     }
 }
 

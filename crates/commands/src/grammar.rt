@@ -114,6 +114,12 @@ const WEIGHTS: Argument = Argument {
     help: "The weight of each node, 1 to 100; else each weighs 1",
 };
 
+const MAX_EVENTS: Argument = Argument {
+    name: "max-events",
+    form: ArgumentForm::Optional("N"),
+    help: "How many events the nodes take, 1 to 4294967296; else 1000000",
+};
+
 const WEATHER: Argument = Argument {
     name: "weather",
     form: ArgumentForm::Optional("SEED"),
@@ -253,7 +259,7 @@ const COMMANDS: [CommandDefinition; 14] = [
         "play",
         "mmlib play --nodes N < SCRIPT",
         "Drive nodes, event by event, by the lines of a script on standard input: mmlib play --nodes 3 < my.script",
-        &[NODES, WEIGHTS, PICTURE, FROM, EVENTS],
+        &[NODES, WEIGHTS, MAX_EVENTS, PICTURE, FROM, EVENTS],
     ),
     CommandDefinition(
         "serve",

@@ -21,10 +21,14 @@ pub enum Request<'a> {
     /// `play`: a script drives nodes, event by event.
     Play {
         weights: Weights,
+        /// `--max-events`: the number of events that the nodes take.
+        event_limit: u64,
     },
     /// `play --picture`: the picture of the run that a script makes.
     Picture {
         weights: Weights,
+        /// `--max-events`: the number of events that the nodes take.
+        event_limit: u64,
         steps: PicturedSteps,
     },
     /// `serve`: nodes that are threads carry out lines.
@@ -35,6 +39,8 @@ pub enum Request<'a> {
 #[derive(Drop)]
 pub struct ServeOptions {
     pub weights: Weights,
+    /// The number of events that the nodes take.
+    pub event_limit: u64,
     /// How many threads read one entry and check its proofs.
     pub workers: WorkerCount,
     /// `--weather`: the seed of a generator that draws which packets are lost, repeated or delayed;

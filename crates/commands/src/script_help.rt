@@ -55,13 +55,14 @@ Lines, K a node from 0:
   show K LABEL                       print a statement
   compare J K                        print which library has more statements
   events                             print the history, as lines of play
+  health                             print the state of each node
 With --live also:
   help                               print these lines";
 
 /// The first words of the lines of a session.
 const SESSION_VERBS: &str = "add, add-lines, add-bytes, submit, submit-lines, submit-bytes, \
     charter, begin, restart, settle, status, why, list, export, log, state, trace, tree, usage, \
-    proof, show, compare, events or help";
+    proof, show, compare, events, health or help";
 
 /// Returns the form of the line of a session that begins with a verb, or all verbs if none does.
 pub fn expected_form(verb: &[u8]) -> &'static str {

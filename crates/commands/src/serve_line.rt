@@ -23,6 +23,8 @@ pub enum ServeLine {
     /// `add`, `add-lines` and `add-bytes`: a text is submitted, again and again up to a limit,
     /// until its verdict is known.
     Add(OfferedEntry),
+    /// `health`: the state of each node, and how many events are taken.
+    Health,
 }
 
 impl Line for ServeLine {
@@ -104,6 +106,8 @@ fn parse_serve_only(verb: &[u8], words: Words<'_>) -> Option<ServeLine>
 {
     if verb == b"settle".as_slice() {
         Some(ServeLine::Settle(words.only_entry_id()?))
+    } else if verb == b"health".as_slice() && words.has_no_words() {
+        Some(ServeLine::Health)
     } else {
         None
     }

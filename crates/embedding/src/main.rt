@@ -59,7 +59,7 @@ fn agree_on_one(rt: &HostRuntime) -> Result<()> {
     let alloc = rt.alloc();
     let (one, two) = (MemoryKeep::new(alloc), MemoryKeep::new(alloc));
     let keeps = vec![in alloc; one, two, MemoryKeep::new(alloc)]?;
-    let (mut switch, mut cells) = cells(alloc, Weights::equal(3), keeps)?;
+    let (mut switch, mut cells) = cells(alloc, Weights::equal(3), 1_000_000, keeps)?;
     offer_on(&mut switch, 0, entry(alloc, 1, GOOD)?)?;
     let mut posted = begin_on(&mut switch, 0)?;
     for packet in 0..100 {

@@ -11,37 +11,37 @@ use Rattle.net.proofs.Offered.{log_entries_were_offered}
 
 module _ {V : Type 0} (size : V → ℕ) (history : History V) (w x : World V) (m : IsMoment size history w) (n : IsMoment size history x) where
   -- if w comes first, the events of its moment and the later ones up to the moment of x lead to x
-  later : (first : IsMoment size history w) (late : List (Event V)) (second : IsMoment size history x) → first.early ++ late ≡ second.early → IsAfter size history.weights (first.early ++ late) x
-  later first late second e = subst (λ (es : List (Event V)). IsAfter size history.weights es x) (sym e) second.is_after
+  later : (first : IsMoment size history w) (late : List (Event V)) (second : IsMoment size history x) → first.early ++ late ≡ second.early → IsAfter size history.weights history.event_limit (first.early ++ late) x
+  later first late second e = subst (λ (es : List (Event V)). IsAfter size history.weights history.event_limit es x) (sym e) second.is_after
 
   -- if x comes first, the events of its moment and the later ones up to the moment of w lead to w
-  earlier : (late : List (Event V)) → n.early ++ late ≡ m.early → IsAfter size history.weights (n.early ++ late) w
-  earlier late e = subst (λ (es : List (Event V)). IsAfter size history.weights es w) (sym e) m.is_after
+  earlier : (late : List (Event V)) → n.early ++ late ≡ m.early → IsAfter size history.weights history.event_limit (n.early ++ late) w
+  earlier late e = subst (λ (es : List (Event V)). IsAfter size history.weights history.event_limit es w) (sym e) m.is_after
 
   -- values chosen at one slot at two moments of a history are equal
   pub moments_choose_one : ChosenAgree w x
   moments_choose_one = elim (beginnings_agree m.early n.early history.events m.begins n.begins) [
-    | inl h ↦ chosen_values_agree size history.weights m.early h.0 w x m.is_after (later m h.0 n h.1)
-    | inr h ↦ λ s u v c d. sym (chosen_values_agree size history.weights n.early h.0 x w n.is_after (earlier h.0 h.1) s v u d c)
+    | inl h ↦ chosen_values_agree size history.weights history.event_limit m.early h.0 w x m.is_after (later m h.0 n h.1)
+    | inr h ↦ λ s u v c d. sym (chosen_values_agree size history.weights history.event_limit n.early h.0 x w n.is_after (earlier h.0 h.1) s v u d c)
   ]
 
   -- the logs at two moments of a history agree
   pub moments_agree : LogsAgree w x
   moments_agree = elim (beginnings_agree m.early n.early history.events m.begins n.begins) [
-    | inl h ↦ logs_of_nodes_agree size history.weights m.early h.0 w x m.is_after (later m h.0 n h.1)
-    | inr h ↦ λ j k. swapped _ _ (logs_of_nodes_agree size history.weights n.early h.0 x w n.is_after (earlier h.0 h.1) k j)
+    | inl h ↦ logs_of_nodes_agree size history.weights history.event_limit m.early h.0 w x m.is_after (later m h.0 n h.1)
+    | inr h ↦ λ j k. swapped _ _ (logs_of_nodes_agree size history.weights history.event_limit n.early h.0 x w n.is_after (earlier h.0 h.1) k j)
   ]
 
 -- agreement holds of a history that is taken
-pub agreement_of : {V : Type 0} (size : V → ℕ) (history : History V) (w : World V) → IsAfter size history.weights history.events w → Agreement size history
+pub agreement_of : {V : Type 0} (size : V → ℕ) (history : History V) (w : World V) → IsAfter size history.weights history.event_limit history.events w → Agreement size history
 agreement_of size history w is_after = record {
   is_taken = subst IsOk (sym is_after) refl;
-  one_value = λ x m. ballots_have_one_value size history.weights m.early x m.is_after;
-  later_value = λ x m. later_ballots_keep_chosen size history.weights m.early x m.is_after;
+  one_value = λ x m. ballots_have_one_value size history.weights history.event_limit m.early x m.is_after;
+  later_value = λ x m. later_ballots_keep_chosen size history.weights history.event_limit m.early x m.is_after;
   chosen = moments_choose_one size history;
-  logs_chosen = λ x m. log_entries_are_chosen size history.weights m.early x m.is_after;
+  logs_chosen = λ x m. log_entries_are_chosen size history.weights history.event_limit m.early x m.is_after;
   logs_agree = moments_agree size history;
-  logs_offered = λ x m. log_entries_were_offered size history.weights m.early x m.is_after;
+  logs_offered = λ x m. log_entries_were_offered size history.weights history.event_limit m.early x m.is_after;
 }
 
 -- Where a run stops: the events in `done` were taken, and e is refused.
@@ -80,17 +80,17 @@ taken_front s [] t y = ap into_iter_items y
 taken_front s (x ∷ xs) t y = y.1.0 ∙ ap (λ ys. x ∷ ys) (taken_front y.0 xs t y.2)
 
 -- the run stops at the event after those taken, with the fault that was answered
-pub stops_there : {V : Type 0} (size : V → ℕ) (weights : List ℕ) (events done rest : List (Event V)) (e : Event V) (old now : History V) (shown : List (Event V)) (fault : StepFault)
-    → events ≡ done ++ e ∷ rest → old ≡ record { weights = weights; events = done } → now ≡ old → shown ≡ now.events → IsOk (world_of size now)
+pub stops_there : {V : Type 0} (size : V → ℕ) (weights : List ℕ) (limit : ℕ) (events done rest : List (Event V)) (e : Event V) (old now : History V) (shown : List (Event V)) (fault : StepFault)
+    → events ≡ done ++ e ∷ rest → old ≡ record { weights = weights; event_limit = limit; events = done } → now ≡ old → shown ≡ now.events → IsOk (world_of size now)
     → IfErr (world_of size (with_event old e)) (λ met. let answer : Result ℕ StepFault = Err fault in answer ≡ Err met) → OnOk (world_of size (with_event old e)) (fault ≡ Memory)
-    → RunStopsAt size weights events (length shown) fault
-stops_there {V} size weights events done rest e old now shown fault split is same shows before refused only_memory =
+    → RunStopsAt size weights limit events (length shown) fault
+stops_there {V} size weights limit events done rest e old now shown fault split is same shows before refused only_memory =
     let count : length shown ≡ length done = ap (λ (es : List (Event V)). length es) (shows ∙ ap (λ (t : History V). t.events) (same ∙ is)) in
-    subst (λ (i : ℕ). RunStopsAt size weights events i fault) (sym count) record {
-      before = subst (λ (es : List (Event V)). IsOk (after size weights es)) (sym (taken_before done (e ∷ rest) events split)) (subst (λ (t : History V). IsOk (world_of size t)) (same ∙ is) before);
+    subst (λ (i : ℕ). RunStopsAt size weights limit events i fault) (sym count) record {
+      before = subst (λ (es : List (Event V)). IsOk (after size weights limit es)) (sym (taken_before done (e ∷ rest) events split)) (subst (λ (t : History V). IsOk (world_of size t)) (same ∙ is) before);
       fault_is = inl (
         stands_within done rest events e split,
-        subst (λ (es : List (Event V)). IsMetOrMemory (after size weights es) fault) (sym (taken_with done rest events e split))
+        subst (λ (es : List (Event V)). IsMetOrMemory (after size weights limit es) fault) (sym (taken_with done rest events e split))
             (subst (λ (t : History V). IsMetOrMemory (world_of size (with_event t e)) fault) is (met_or_memory (world_of size (with_event old e)) fault (answered_met (world_of size (with_event old e)) fault refused) only_memory)),
       );
     }

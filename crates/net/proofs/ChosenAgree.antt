@@ -28,7 +28,7 @@ module _ {V : Type 0} (ws : List ℕ) (offers : List V) (l : Ledger V) (sound : 
 
 -- values chosen at one slot at two moments are equal
 pub chosen_values_agree : {V : Type 0} → ChosenValuesAgree V
-chosen_values_agree {V} size ws early late w x first then s u v c d =
-    let h = holds_after size ws (early ++ late) x then in
+chosen_values_agree {V} size ws limit early late w x first then s u v c d =
+    let h = holds_after size ws limit (early ++ late) x then in
     let told = λ (y : Option V) (e : IsChosen x.weights x.votes_cast s y). subst (λ (votes : List (Vote V)). IsChosen x.weights votes s y) (sym h.votes_cast) e in
-    chosen_once x.weights _ h.ledger h.sound s u v (told u (stays_chosen size ws early late w x first then s u c)) (told v d)
+    chosen_once x.weights _ h.ledger h.sound s u v (told u (stays_chosen size ws limit early late w x first then s u c)) (told v d)

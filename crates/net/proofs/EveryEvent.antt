@@ -1,6 +1,6 @@
 -- The invariant holds at the start, and each event that is taken preserves it, so it holds of the
 -- world after any events.
-use Rattle.net.proofs.Words.{◌≡◌, ℕ, zero, suc, ◌+◌, ◌<◌, Bool, true, false, ◌==◌, List, [], ◌∷◌, Option, Some, None, Result, Ok, Err, inl, inr, refl, ap, sym, ◌∙◌, subst, arith, if◌then◌else◌, slice_get, set, AllByRecursion, In, Packet, Body, Prepare, Promise, Accept, Accepted, Nack, Ask, Told, Refusal, Node, StepResult, offer_result, begin_result, on_body, on_packet, restarted, MAX_EVENTS, Event, Offer, Begin, Deliver, Restart, StepFault, EventsSpent, Vote, World, start, nodes_from, after_step, after_step_or_fault, votes_after, at_node, delivered, event_result_without_limit, event_result, events_result, after, offers_of, IsAfter, all_append}
+use Rattle.net.proofs.Words.{◌≡◌, ℕ, zero, suc, ◌+◌, ◌<◌, Bool, true, false, ◌==◌, List, [], ◌∷◌, Option, Some, None, Result, Ok, Err, inl, inr, refl, ap, sym, ◌∙◌, subst, arith, if◌then◌else◌, slice_get, set, AllByRecursion, In, Packet, Body, Prepare, Promise, Accept, Accepted, Nack, Ask, Told, Refusal, Node, StepResult, offer_result, begin_result, on_body, on_packet, restarted, Event, Offer, Begin, Deliver, Restart, StepFault, EventsSpent, Vote, World, start, nodes_from, after_step, after_step_or_fault, votes_after, at_node, delivered, event_result_without_limit, event_result, events_result, after, offers_of, IsAfter, all_append}
 use Rattle.net.proofs.GrowingLists.{all_more, all_in, in_slice_get}
 use Rattle.net.proofs.Ledger.{Ledger, IsSound}
 use Rattle.net.proofs.LedgerGrows.{Grows}
@@ -136,7 +136,7 @@ pub all_keep : {V : Type 0} (size : V → ℕ) (P : World V → Type 0) (each : 
 all_keep size P each keeps [] all r h = h
 all_keep size P each keeps (e ∷ es) all (Err fault) h = tt
 all_keep size P each keeps (e ∷ es) all (Ok w) h =
-    all_keep size P each keeps es all.1 (event_result size w e) (spent_or P (event_result_without_limit size w e) (w.event_count == MAX_EVENTS) (keeps w e all.0 h))
+    all_keep size P each keeps es all.1 (event_result size w e) (spent_or P (event_result_without_limit size w e) (w.event_count == w.event_limit) (keeps w e all.0 h))
 
 -- The start.
 
@@ -159,8 +159,8 @@ module _ {V : Type 0} (ws : List ℕ) (offers : List V) where
   )
 
   -- the invariant holds before any event
-  start_holds : WorldHolds offers (start ws)
-  start_holds = record {
+  start_holds : (limit : ℕ) → WorldHolds offers (start ws limit)
+  start_holds limit = record {
     ledger = empty;
     sound = record {
       one_value = λ p q i j e. elim i [ ];
@@ -193,7 +193,7 @@ each_brought offers (Deliver number ∷ es) more = (λ v i. elim i [ ], each_bro
 each_brought offers (Restart k ∷ es) more = (λ v i. elim i [ ], each_brought offers es more)
 
 -- the invariant holds of the world after any events that are taken
-pub holds_after : {V : Type 0} (size : V → ℕ) (ws : List ℕ) (es : List (Event V)) (w : World V) → IsAfter size ws es w → WorldHolds (offers_of es) w
-holds_after size ws es w is_after = if_taken (WorldHolds (offers_of es)) (after size ws es) w is_after
+pub holds_after : {V : Type 0} (size : V → ℕ) (ws : List ℕ) (limit : ℕ) (es : List (Event V)) (w : World V) → IsAfter size ws limit es w → WorldHolds (offers_of es) w
+holds_after size ws limit es w is_after = if_taken (WorldHolds (offers_of es)) (after size ws limit es) w is_after
     (all_keep size (WorldHolds (offers_of es)) (λ e. (v : _) → In v (offers_of (e ∷ [])) → In v (offers_of es)) (λ w e brought h. happens_at_holds (offers_of es) w h size e brought)
-    es (each_brought (offers_of es) es (λ v i. i)) (Ok (start ws)) (start_holds ws (offers_of es)))
+    es (each_brought (offers_of es) es (λ v i. i)) (Ok (start ws limit)) (start_holds ws (offers_of es) limit))

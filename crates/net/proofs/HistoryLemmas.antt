@@ -1,7 +1,7 @@
 -- The world after a history, and after one more event.
-use Rattle.net.proofs.Words.{◌≡◌, ℕ, zero, suc, ◌+◌, ◌<◌, ◌≤◌, Bool, true, false, ◌==◌, if◌then◌else◌, List, [], ◌∷◌, ◌++◌, length, take, get_or, set, slice_get, Option, Some, None, Result, Ok, Err, refl, ap, sym, ◌∙◌, subst, arith, le_of_suc-le-suc, add-one, AllByRecursion, Packet, IsWeights, IsPost, nat_tests, Refusal, Node, StepResult, new_node, offer_result, begin_result, on_packet, restarted, log_of, Core, Event, Offer, Begin, Deliver, Restart, MAX_EVENTS, StepFault, EventsSpent, World, nodes_from, start, after_step, after_step_or_fault, at_node, delivered, event_result_without_limit, event_result, events_result, after, log_at, log_after, packets_after, offers_of, IsAfter, History, nodes_of, AreOfWorld, world_of, with_event}
+use Rattle.net.proofs.Words.{◌≡◌, ℕ, zero, suc, ◌+◌, ◌<◌, ◌≤◌, Bool, true, false, ◌==◌, if◌then◌else◌, List, [], ◌∷◌, ◌++◌, length, take, get_or, set, slice_get, Option, Some, None, Result, Ok, Err, refl, ap, sym, ◌∙◌, subst, arith, le_of_suc-le-suc, add-one, AllByRecursion, Packet, IsWeights, IsPost, nat_tests, Refusal, Node, StepResult, new_node, offer_result, begin_result, on_packet, restarted, log_of, Core, Event, Offer, Begin, Deliver, Restart, StepFault, EventsSpent, World, nodes_from, start, after_step, after_step_or_fault, at_node, delivered, event_result_without_limit, event_result, events_result, after, log_at, log_after, packets_after, offers_of, IsAfter, History, nodes_of, AreOfWorld, world_of, with_event}
 use Rattle.net.proofs.EveryEvent.{IfTaken, if_taken, spent_or, node_at, holds_after}
-use Rattle.net.proofs.TwoMoments.{events_result-append, world_lasts}
+use Rattle.net.proofs.TwoMoments.{Lasts, events_result-append, lasts_happens, lasts_itself, world_lasts}
 
 -- New nodes, one by one.
 
@@ -29,11 +29,11 @@ new_nodes-push {V} weights k old new core pushed is_new before under =
     ∙ ap (λ (i : ℕ). nodes_from {V = V} weights 0 (take i weights)) (sym (add-one k))
 
 -- cores that are new nodes, without packets and events, are of the world at the start
-pub start_of_world : {V : Type 0} (size : V → ℕ) (weights : List ℕ) → IsWeights weights → (cores : List (Core V)) (packets : List (Packet V)) (events : List (Event V)) → nodes_of cores ≡ nodes_from weights 0 weights → events ≡ [] → packets ≡ []
-    → AreOfWorld size (record { weights = weights; events = events }) cores packets
-start_of_world {V} size weights are cores packets events new no_events no_packets =
-    subst (λ (es : List (Event V)). AreOfWorld size (record { weights = weights; events = es }) cores packets) (sym no_events) record {
-      world = start weights;
+pub start_of_world : {V : Type 0} (size : V → ℕ) (weights : List ℕ) (limit : ℕ) → IsWeights weights → (cores : List (Core V)) (packets : List (Packet V)) (events : List (Event V)) → nodes_of cores ≡ nodes_from weights 0 weights → events ≡ [] → packets ≡ []
+    → AreOfWorld size (record { weights = weights; event_limit = limit; events = events }) cores packets
+start_of_world {V} size weights limit are cores packets events new no_events no_packets =
+    subst (λ (es : List (Event V)). AreOfWorld size (record { weights = weights; event_limit = limit; events = es }) cores packets) (sym no_events) record {
+      world = start weights limit;
       is_after = refl;
       nodes = sym new;
       posted = sym no_packets;
@@ -86,7 +86,7 @@ module _ {V : Type 0} (count : ℕ) (w : World V) (counted : w.event_count ≡ c
   counts_delivered (Some p) = counts_at p.to (λ n. Ok (on_packet n p)) (slice_get w.nodes p.to)
 
   -- each event raises the count of events by one
-  counts_happens_at : (size : V → ℕ) (e : Event V) → Counts (event_result_without_limit size w e)
+  pub counts_happens_at : (size : V → ℕ) (e : Event V) → Counts (event_result_without_limit size w e)
   counts_happens_at size (Offer k v) = counts_at k (λ n. offer_result size n v) (slice_get w.nodes k)
   counts_happens_at size (Begin k) = counts_at k begin_result (slice_get w.nodes k)
   counts_happens_at size (Deliver number) = counts_delivered (slice_get w.packets number)
@@ -94,7 +94,7 @@ module _ {V : Type 0} (count : ℕ) (w : World V) (counted : w.event_count ≡ c
 
   -- each event raises the count of events by one, with the limit tested first
   counts_happens : (size : V → ℕ) (e : Event V) → Counts (event_result size w e)
-  counts_happens size e = spent_or (λ x. x.event_count ≡ count + 1) (event_result_without_limit size w e) (w.event_count == MAX_EVENTS) (counts_happens_at size e)
+  counts_happens size e = spent_or (λ x. x.event_count ≡ count + 1) (event_result_without_limit size w e) (w.event_count == w.event_limit) (counts_happens_at size e)
 
 -- a list of events raises the count by its length
 counts_all : {V : Type 0} (size : V → ℕ) (count : ℕ) (es : List (Event V)) (r : Result (World V) StepFault) → IfTaken r (λ x. x.event_count ≡ count) → IfTaken (events_result size es r) (λ x. x.event_count ≡ count + length es)
@@ -106,24 +106,24 @@ counts_all {V} size count (e ∷ es) (Ok w) h =
     subst (λ (n : ℕ). IfTaken (events_result size es (event_result size w e)) (λ (x : World V). x.event_count ≡ n)) step (counts_all size (count + 1) es (event_result size w e) (counts_happens count w h size e))
 
 -- the count of events of the world after a list of events is the length of the list
-pub taken_count : {V : Type 0} (size : V → ℕ) (weights : List ℕ) (es : List (Event V)) (w : World V) → IsAfter size weights es w → w.event_count ≡ length es
-taken_count {V} size weights es w is_after = if_taken (λ (x : World V). x.event_count ≡ 0 + length es) (after size weights es) w is_after (counts_all size 0 es (Ok (start weights)) refl) ∙ omega arith
+pub taken_count : {V : Type 0} (size : V → ℕ) (weights : List ℕ) (limit : ℕ) (es : List (Event V)) (w : World V) → IsAfter size weights limit es w → w.event_count ≡ length es
+taken_count {V} size weights limit es w is_after = if_taken (λ (x : World V). x.event_count ≡ 0 + length es) (after size weights limit es) w is_after (counts_all size 0 es (Ok (start weights limit)) refl) ∙ omega arith
 
 -- One more event.
 
-pub after-push : {V : Type 0} (size : V → ℕ) (weights : List ℕ) (es : List (Event V)) (w : World V) (e : Event V) → IsAfter size weights es w → after size weights (es ++ e ∷ []) ≡ event_result size w e
-after-push size weights es w e is_after = events_result-append size es (e ∷ []) (Ok (start weights)) ∙ ap (λ r. events_result size (e ∷ []) r) is_after
+pub after-push : {V : Type 0} (size : V → ℕ) (weights : List ℕ) (limit : ℕ) (es : List (Event V)) (w : World V) (e : Event V) → IsAfter size weights limit es w → after size weights limit (es ++ e ∷ []) ≡ event_result size w e
+after-push size weights limit es w e is_after = events_result-append size es (e ∷ []) (Ok (start weights limit)) ∙ ap (λ r. events_result size (e ∷ []) r) is_after
 
 -- if the limit is not reached, the test leaves the result of an event as it is
 not_spent : {V : Type 0} (r : Result (World V) StepFault) (t : Bool) → t ≡ false → (if t then Err EventsSpent else r) ≡ r
 not_spent r true e = cc
 not_spent r false e = refl
 
-pub event_result-not_spent : {V : Type 0} (size : V → ℕ) (w : World V) (e : Event V) → w.event_count < MAX_EVENTS → event_result size w e ≡ event_result_without_limit size w e
-event_result-not_spent size w e low = not_spent (event_result_without_limit size w e) (w.event_count == MAX_EVENTS) (grind (arith, nat_tests))
+pub event_result-not_spent : {V : Type 0} (size : V → ℕ) (w : World V) (e : Event V) → w.event_count < w.event_limit → event_result size w e ≡ event_result_without_limit size w e
+event_result-not_spent size w e low = not_spent (event_result_without_limit size w e) (w.event_count == w.event_limit) (grind (arith, nat_tests))
 
-pub event_result-spent : {V : Type 0} (size : V → ℕ) (w : World V) (e : Event V) → w.event_count ≡ MAX_EVENTS → event_result size w e ≡ Err EventsSpent
-event_result-spent {V} size w e spent = all (w.event_count == MAX_EVENTS) (grind (arith, nat_tests)) where
+pub event_result-spent : {V : Type 0} (size : V → ℕ) (w : World V) (e : Event V) → w.event_count ≡ w.event_limit → event_result size w e ≡ Err EventsSpent
+event_result-spent {V} size w e spent = all (w.event_count == w.event_limit) (grind (arith, nat_tests)) where
   all : (t : Bool) → t ≡ true → (if t then Err EventsSpent else event_result_without_limit size w e) ≡ Err EventsSpent
   all true d = refl
   all false d = cc
@@ -150,11 +150,15 @@ module _ {V : Type 0} (size : V → ℕ) (old : History V) (cores : List (Core V
   pub no_node_shown : (k : ℕ) → length cores ≤ k → slice_get h.world.nodes k ≡ None
   no_node_shown k past = ap (λ (ns : List (Node V)). slice_get ns k) h.nodes ∙ nodes_past cores k past
 
-  module _ (low : length old.events < MAX_EVENTS) where
+  -- the limit of the world is that of the history
+  pub same_limit : h.world.event_limit ≡ old.event_limit
+  same_limit = (world_lasts size old.weights old.event_limit [] old.events (start old.weights old.event_limit) h.world refl h.is_after).limit
+
+  module _ (low : length old.events < old.event_limit) where
     -- below the limit of events, the history with one more event leads to the result of the event
     -- in the world
     pub next_is : (e : Event V) → world_of size (with_event old e) ≡ event_result_without_limit size h.world e
-    next_is e = after-push size old.weights old.events h.world e h.is_after ∙ event_result-not_spent size h.world e (let count = taken_count size old.weights old.events h.world h.is_after in omega (arith, count, low))
+    next_is e = after-push size old.weights old.event_limit old.events h.world e h.is_after ∙ event_result-not_spent size h.world e (let count = taken_count size old.weights old.event_limit old.events h.world h.is_after in omega (arith, count, low, same_limit))
 
     -- if an event makes the step, the cores and packets with the step made are of the world after
     -- the event
@@ -174,43 +178,46 @@ module _ {V : Type 0} (size : V → ℕ) (old : History V) (cores : List (Core V
 -- the weights that a node has are those of the history
 pub own_weights : {V : Type 0} (size : V → ℕ) (old : History V) (cores : List (Core V)) (packets : List (Packet V)) (h : AreOfWorld size old cores packets) (k : ℕ) (core : Core V) → k < length cores → core ≡ get_or cores k core → core.node.weights ≡ old.weights
 own_weights {V} size old cores packets h k core low is =
-    let holds = holds_after size old.weights old.events h.world h.is_after in
+    let holds = holds_after size old.weights old.event_limit old.events h.world h.is_after in
     let at : slice_get h.world.nodes k ≡ Some core.node = ap (λ (ns : List (Node V)). slice_get ns k) h.nodes ∙ nodes_at cores k core low is in
     (node_at h.world.weights (offers_of old.events) holds.ledger h.world.nodes 0 k core.node at holds.nodes).weights
-    ∙ (world_lasts size old.weights [] old.events (start old.weights) h.world refl h.is_after).weights
+    ∙ (world_lasts size old.weights old.event_limit [] old.events (start old.weights old.event_limit) h.world refl h.is_after).weights
 
 -- if the limit of events is reached, each event meets EventsSpent
-pub spent_met : {V : Type 0} (size : V → ℕ) (old now : History V) (cores : List (Core V)) (packets : List (Packet V)) → AreOfWorld size old cores packets → old ≡ now → (e : Event V) → length old.events ≡ MAX_EVENTS → world_of size (with_event now e) ≡ Err EventsSpent
+pub spent_met : {V : Type 0} (size : V → ℕ) (old now : History V) (cores : List (Core V)) (packets : List (Packet V)) → AreOfWorld size old cores packets → old ≡ now → (e : Event V) → length old.events ≡ old.event_limit → world_of size (with_event now e) ≡ Err EventsSpent
 spent_met {V} size old now cores packets h seen e spent =
-    let count = taken_count size old.weights old.events h.world h.is_after in
-    subst (λ (t : History V). world_of size (with_event t e) ≡ Err EventsSpent) seen (after-push size old.weights old.events h.world e h.is_after ∙ event_result-spent size h.world e (count ∙ spent))
+    let count = taken_count size old.weights old.event_limit old.events h.world h.is_after in
+    subst (λ (t : History V). world_of size (with_event t e) ≡ Err EventsSpent) seen (after-push size old.weights old.event_limit old.events h.world e h.is_after ∙ event_result-spent size h.world e (count ∙ spent ∙ sym (same_limit size old cores packets h)))
 
 -- The events of a run are within the limit.
 
--- if P implies Q and P holds of the world, if the events are taken, so does Q
-if_more : {V : Type 0} (P Q : World V → Type 0) (r : Result (World V) StepFault) → ((x : World V) → P x → Q x) → IfTaken r P → IfTaken r Q
-if_more P Q (Ok x) more h = more x h
-if_more P Q (Err fault) more h = tt
+-- if P and Q imply R and hold of the world, if the events are taken, so does R
+if_both : {V : Type 0} (P Q R : World V → Type 0) (r : Result (World V) StepFault) → ((x : World V) → P x → Q x → R x) → IfTaken r P → IfTaken r Q → IfTaken r R
+if_both P Q R (Ok x) both p q = both x p q
+if_both P Q R (Err fault) both p q = tt
 
 -- an event leaves the count of events within the limit
-within_if : {V : Type 0} (size : V → ℕ) (w : World V) (e : Event V) (t : Bool) → (w.event_count == MAX_EVENTS) ≡ t → w.event_count ≤ MAX_EVENTS → IfTaken (if t then Err EventsSpent else event_result_without_limit size w e) (λ x. x.event_count ≤ MAX_EVENTS)
+within_if : {V : Type 0} (size : V → ℕ) (w : World V) (e : Event V) (t : Bool) → (w.event_count == w.event_limit) ≡ t → w.event_count ≤ w.event_limit → IfTaken (if t then Err EventsSpent else event_result_without_limit size w e) (λ x. x.event_count ≤ x.event_limit)
 within_if size w e true test low = tt
 within_if {V} size w e false test low =
-    let other : w.event_count < MAX_EVENTS = grind (arith, nat_tests) in
-    if_more (λ (x : World V). x.event_count ≡ w.event_count + 1) (λ (x : World V). x.event_count ≤ MAX_EVENTS) (event_result_without_limit size w e) (λ x count. omega (arith, count, other)) (counts_happens_at w.event_count w refl size e)
+    let other : w.event_count < w.event_limit = grind (arith, nat_tests) in
+    if_both (λ (x : World V). x.event_count ≡ w.event_count + 1) (Lasts w) (λ (x : World V). x.event_count ≤ x.event_limit) (event_result_without_limit size w e)
+    (λ x count lasts. let limit = lasts.limit in omega (arith, count, limit, other))
+    (counts_happens_at w.event_count w refl size e) (lasts_happens w w (lasts_itself w) size e)
 
 -- a list of events leaves the count of events within the limit
-within_all : {V : Type 0} (size : V → ℕ) (es : List (Event V)) (r : Result (World V) StepFault) → IfTaken r (λ x. x.event_count ≤ MAX_EVENTS) → IfTaken (events_result size es r) (λ x. x.event_count ≤ MAX_EVENTS)
+within_all : {V : Type 0} (size : V → ℕ) (es : List (Event V)) (r : Result (World V) StepFault) → IfTaken r (λ x. x.event_count ≤ x.event_limit) → IfTaken (events_result size es r) (λ x. x.event_count ≤ x.event_limit)
 within_all size [] r h = h
 within_all size (e ∷ es) (Err fault) h = tt
-within_all size (e ∷ es) (Ok w) h = within_all size es (event_result size w e) (within_if size w e (w.event_count == MAX_EVENTS) refl h)
+within_all size (e ∷ es) (Ok w) h = within_all size es (event_result size w e) (within_if size w e (w.event_count == w.event_limit) refl h)
 
 -- the events of a history that is taken are within the limit
-pub events_within : {V : Type 0} (size : V → ℕ) (old now : History V) (cores : List (Core V)) (packets : List (Packet V)) → AreOfWorld size old cores packets → old ≡ now → length now.events ≤ MAX_EVENTS
+pub events_within : {V : Type 0} (size : V → ℕ) (old now : History V) (cores : List (Core V)) (packets : List (Packet V)) → AreOfWorld size old cores packets → old ≡ now → length now.events ≤ now.event_limit
 events_within {V} size old now cores packets h seen =
-    let most = if_taken (λ (x : World V). x.event_count ≤ MAX_EVENTS) (after size old.weights old.events) h.world h.is_after (within_all size old.events (Ok (start old.weights)) (omega arith)) in
-    let count = taken_count size old.weights old.events h.world h.is_after in
-    subst (λ (t : History V). length t.events ≤ MAX_EVENTS) seen (omega (arith, most, count))
+    let most = if_taken (λ (x : World V). x.event_count ≤ x.event_limit) (after size old.weights old.event_limit old.events) h.world h.is_after (within_all size old.events (Ok (start old.weights old.event_limit)) (omega arith)) in
+    let count = taken_count size old.weights old.event_limit old.events h.world h.is_after in
+    let limit = same_limit size old cores packets h in
+    subst (λ (t : History V). length t.events ≤ t.event_limit) seen (omega (arith, most, count, limit))
 
 -- The world after the events, as the fields show it.
 
@@ -230,7 +237,7 @@ module _ {V : Type 0} (size : V → ℕ) (old now : History V) (cores : List (Co
   -- there are as many cores as weights
   pub count_shown : length cores ≡ length now.weights
   count_shown =
-      let lasts = (world_lasts size old.weights [] old.events (start old.weights) h.world refl h.is_after).count in
+      let lasts = (world_lasts size old.weights old.event_limit [] old.events (start old.weights old.event_limit) h.world refl h.is_after).count in
       sym (length-nodes_of cores) ∙ ap (λ (ns : List (Node V)). length ns) (sym h.nodes) ∙ lasts ∙ length-nodes_from V old.weights 0 old.weights ∙ ap (λ (t : History V). length t.weights) seen
 
   -- the log of the core that is read at number k is that of node k after the history

@@ -1,6 +1,6 @@
 -- The law of the kept part: each step makes its one change to the kept part of its own node only,
 -- and a restart makes none.
-use Rattle.net.proofs.Words.{◌≡◌, ◌≢◌, ℕ, ◌==◌, List, [], ◌∷◌, ◌++◌, Option, Some, None, Result, Ok, Err, refl, ap, sym, ◌∙◌, subst, slice_get, option_map, Packet, Change, Refusal, KeptPart, changed_by, Node, StepResult, kept_of, offer_result, begin_result, on_packet, restarted, ChangesKeptOnOk, offered_kept, begun_kept, body_kept, restarted_kept, MAX_EVENTS, Event, Offer, Begin, Deliver, Restart, StepFault, World, after_step, after_step_or_fault, at_node, delivered, event_result_without_limit, event_result, events_result, kept_part, node_of, change_of_result, change_at, change_delivered, change_of, AreOfOthers, KeptPartSurvives}
+use Rattle.net.proofs.Words.{◌≡◌, ◌≢◌, ℕ, ◌==◌, List, [], ◌∷◌, ◌++◌, Option, Some, None, Result, Ok, Err, refl, ap, sym, ◌∙◌, subst, slice_get, option_map, Packet, Change, Refusal, KeptPart, changed_by, Node, StepResult, kept_of, offer_result, begin_result, on_packet, restarted, ChangesKeptOnOk, offered_kept, begun_kept, body_kept, restarted_kept, Event, Offer, Begin, Deliver, Restart, StepFault, World, after_step, after_step_or_fault, at_node, delivered, event_result_without_limit, event_result, events_result, kept_part, node_of, change_of_result, change_at, change_delivered, change_of, AreOfOthers, KeptPartSurvives}
 use Rattle.net.proofs.EveryEvent.{IfTaken, if_taken, spent_or}
 use Rattle.net.proofs.TwoMoments.{events_result-append, later_events}
 use Rattle.net.proofs.GrowingLists.{at_set, at_set_other}
@@ -60,7 +60,7 @@ module _ {V : Type 0} (size : V → ℕ) (w : World V) (k : ℕ) where
       (moves_at w p.to k (λ n. Ok (on_packet n p)) (λ n. body_kept n p.from p.body) (slice_get w.nodes p.to) refl))
 
   -- each event makes its change to the kept part of its node and of no other
-  happens_moves : (e : Event V) → IfTaken (event_result_without_limit size w e) (Happens size w k e)
+  pub happens_moves : (e : Event V) → IfTaken (event_result_without_limit size w e) (Happens size w k e)
   happens_moves (Offer j v) = as_happens (Offer j v) j refl (event_result_without_limit size w (Offer j v)) (moves_at w j k (λ n. offer_result size n v) (λ n. offered_kept n size v) (slice_get w.nodes j) refl)
   happens_moves (Begin j) = as_happens (Begin j) j refl (event_result_without_limit size w (Begin j)) (moves_at w j k begin_result (λ n. begun_kept n) (slice_get w.nodes j) refl)
   happens_moves (Deliver number) = happens_delivered number (slice_get w.packets number) refl
@@ -69,7 +69,7 @@ module _ {V : Type 0} (size : V → ℕ) (w : World V) (k : ℕ) where
   -- each event makes its change to the kept part of its node and of no other, with the limit of
   -- events tested first
   pub event_moves : (e : Event V) → IfTaken (event_result size w e) (Happens size w k e)
-  event_moves e = spent_or (Happens size w k e) (event_result_without_limit size w e) (w.event_count == MAX_EVENTS) (happens_moves e)
+  event_moves e = spent_or (Happens size w k e) (event_result_without_limit size w e) (w.event_count == w.event_limit) (happens_moves e)
 
 -- Events of other nodes, and then the restart.
 
@@ -106,11 +106,11 @@ module _ {V : Type 0} (size : V → ℕ) (k : ℕ) (kept : Option (KeptPart V)) 
 -- after an event of a node, events of others and its restart, its kept part is the one before with
 -- the event's change
 pub kept_part_survives : {V : Type 0} → KeptPartSurvives V
-kept_part_survives {V} size ws events others e k w x y before made is_of of_others after_all =
+kept_part_survives {V} size ws limit events others e k w x y before made is_of of_others after_all =
     let kept : Option (KeptPart V) = changed_part (change_of size w e) (kept_part w k) in
     let moved : KeptIs k kept x = (if_taken (Happens size w k e) (event_result size w e) x made (event_moves size w k e)).own is_of in
     let rest : List (Event V) = others ++ Restart k ∷ [] in
-    let from_e = later_events size ws events (e ∷ rest) w (Ok y) before after_all in
+    let from_e = later_events size ws limit events (e ∷ rest) w (Ok y) before after_all in
     let from_x : events_result size rest (Ok x) ≡ Ok y = ap (λ (r : Result (World V) StepFault). events_result size rest r) (sym made) ∙ from_e in
     let last : events_result size (Restart k ∷ []) (events_result size others (Ok x)) ≡ Ok y = sym (events_result-append size others (Restart k ∷ []) (Ok x)) ∙ from_x in
     if_taken (KeptIs k kept) (events_result size (Restart k ∷ []) (events_result size others (Ok x))) y last

@@ -34,7 +34,7 @@ module _ {V : Type 0} (ws : List ℕ) (offers : List V) (l : Ledger V) (sound : 
 -- if a value is chosen at a slot under an earlier ballot, an Accept for that slot proposes this
 -- value
 pub later_ballots_keep_chosen : {V : Type 0} → ChosenValuesPersist V
-later_ballots_keep_chosen {V} size ws events w is_after b c s u v chosen p under =
-    let h = holds_after size ws events w is_after in
+later_ballots_keep_chosen {V} size ws limit events w is_after b c s u v chosen p under =
+    let h = holds_after size ws limit events w is_after in
     later_value w.weights _ h.ledger h.sound (proposal c s v) (proposed_in _ w h c s v p) b u
     (subst (λ (votes : List (Vote V)). IsChosenAt w.weights votes b s u) (sym h.votes_cast) chosen) (under_true b c under)

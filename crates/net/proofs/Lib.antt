@@ -24,6 +24,8 @@ pub mod AgreementLemmas
 mod Rows
 pub mod HistoryLemmas
 pub mod NodeStatesLemmas
+mod CrashLemmas
+mod UnderWayLemmas
 pub mod EventsStaged
 pub mod StepsStaged
 pub mod StagedTaken

@@ -19,11 +19,11 @@ log_chosen offers w h k s v e = log_at_chosen w.weights offers h.ledger (0 + k) 
 
 -- each entry of a log is chosen by the votes ever cast
 pub log_entries_are_chosen : {V : Type 0} → LogEntriesAreChosen V
-log_entries_are_chosen {V} size ws events w is_after k s v e =
-    let h = holds_after size ws events w is_after in
+log_entries_are_chosen {V} size ws limit events w is_after k s v e =
+    let h = holds_after size ws limit events w is_after in
     subst (λ (votes : List (Vote V)). IsChosen w.weights votes s v) h.votes_cast (log_chosen _ w h k s v e)
 
 -- the logs of two nodes at two moments agree
 pub logs_of_nodes_agree : {V : Type 0} → LogsOfNodesAgree V
-logs_of_nodes_agree size ws early late w x first then j k = agree_lists (log w j) (log x k) (λ s u v e d.
-    chosen_values_agree size ws early late w x first then s u v (log_entries_are_chosen size ws early w first j s u e) (log_entries_are_chosen size ws (early ++ late) x then k s v d))
+logs_of_nodes_agree size ws limit early late w x first then j k = agree_lists (log w j) (log x k) (λ s u v e d.
+    chosen_values_agree size ws limit early late w x first then s u v (log_entries_are_chosen size ws limit early w first j s u e) (log_entries_are_chosen size ws limit (early ++ late) x then k s v d))

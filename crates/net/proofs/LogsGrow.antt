@@ -1,6 +1,6 @@
 -- A log only grows: a step of a node learns only at an empty slot, and nothing is forgotten except
 -- at a restart.
-use Rattle.net.proofs.Words.{◌≡◌, ◌≢◌, ℕ, zero, suc, ◌-◌, ◌^◌, ◌==◌, ◌&&◌, not, nat_lt, Bool, true, false, List, [], ◌∷◌, ◌++◌, length, Option, Some, None, Result, Ok, Err, refl, ap, sym, ◌∙◌, subst, slice_get, if◌then◌else◌, append-nil, arith, nat_tests, SLOTS, entry_at, put_at, entries_to_gap, Ballot, Packet, SlotReport, Body, Prepare, Promise, Accept, Accepted, Nack, Ask, Told, MAX_WAITING, Heard, Role, Idle, Preparing, Leading, Refusal, Busy, LogFull, RoundsSpent, TooLong, MAX_VALUE_BYTES, is_below, is_same, is_quorum, are_received, Node, StepResult, unchanged, pages_from, with_page, is_heard, log_of, log_length, promises, sends_nack, accepts_value, waits, proposes_value, offer_waits, offer_as, offer_result, next_round, begins, begin_result, top_or_first, all_reports, leads, adds_page, completes_promise, on_complete_promise, on_promise_page, on_promise_as, is_at, idles, has_voter, counted, learns_chosen, on_accepted_at, on_ask_at, on_told_at, on_body, on_packet, restarted, MAX_EVENTS, Event, Offer, Begin, Deliver, Restart, World, after_step, after_step_or_fault, at_node, delivered, event_result_without_limit, event_result, log_at, log, IsPrefixOf, LogsOnlyGrow, RestartEmptiesLog}
+use Rattle.net.proofs.Words.{◌≡◌, ◌≢◌, ℕ, zero, suc, ◌-◌, ◌^◌, ◌==◌, ◌&&◌, not, nat_lt, Bool, true, false, List, [], ◌∷◌, ◌++◌, length, Option, Some, None, Result, Ok, Err, refl, ap, sym, ◌∙◌, subst, slice_get, if◌then◌else◌, append-nil, arith, nat_tests, SLOTS, entry_at, put_at, entries_to_gap, Ballot, Packet, SlotReport, Body, Prepare, Promise, Accept, Accepted, Nack, Ask, Told, MAX_WAITING, Heard, Role, Idle, Preparing, Leading, Refusal, Busy, LogFull, RoundsSpent, TooLong, MAX_VALUE_BYTES, is_below, is_same, is_quorum, are_received, Node, StepResult, unchanged, pages_from, with_page, is_heard, log_of, log_length, promises, sends_nack, accepts_value, waits, proposes_value, offer_waits, offer_as, offer_result, next_round, begins, begin_result, top_or_first, all_reports, leads, adds_page, completes_promise, on_complete_promise, on_promise_page, on_promise_as, is_at, idles, has_voter, counted, learns_chosen, on_accepted_at, on_ask_at, on_told_at, on_body, on_packet, restarted, Event, Offer, Begin, Deliver, Restart, World, after_step, after_step_or_fault, at_node, delivered, event_result_without_limit, event_result, log_at, log, IsPrefixOf, LogsOnlyGrow, RestartEmptiesLog}
 use Rattle.net.proofs.EveryEvent.{IfTaken, if_taken, spent_or}
 use Rattle.net.proofs.GrowingLists.{at_set, at_set_other}
 
@@ -152,7 +152,7 @@ module _ {V : Type 0} (size : V → ℕ) (w : World V) (k : ℕ) where
 
   -- the log of node k before an event other than its restart is a prefix of the log after it
   pub log_grows : (e : Event V) → e ≢ Restart k → IfTaken (event_result size w e) (λ x. IsPrefixOf (log w k) (log x k))
-  log_grows e other = spent_or (λ x. IsPrefixOf (log w k) (log x k)) (event_result_without_limit size w e) (w.event_count == MAX_EVENTS) (grows_happens_at e other)
+  log_grows e other = spent_or (λ x. IsPrefixOf (log w k) (log x k)) (event_result_without_limit size w e) (w.event_count == w.event_limit) (grows_happens_at e other)
 
   -- a restart of node k, if it exists, empties its log
   emptied : (o : Option (Node V)) → slice_get w.nodes k ≡ o → IfTaken (at_node w k (λ n. Ok (restarted n)) o) (λ x. log x k ≡ [])
@@ -161,9 +161,9 @@ module _ {V : Type 0} (size : V → ℕ) (w : World V) (k : ℕ) where
 
 -- the log of a node is a prefix of its log after an event other than its restart
 pub logs_only_grow : {V : Type 0} → LogsOnlyGrow V
-logs_only_grow size weights events e k w x is_after happened other = if_taken (λ x. IsPrefixOf (log w k) (log x k)) (event_result size w e) x happened (log_grows size w k e other)
+logs_only_grow size weights limit events e k w x is_after happened other = if_taken (λ x. IsPrefixOf (log w k) (log x k)) (event_result size w e) x happened (log_grows size w k e other)
 
 -- a restart of a node empties its log
 pub restart_empties_log : {V : Type 0} → RestartEmptiesLog V
-restart_empties_log size weights events k w x is_after happened =
-    if_taken (λ x. log x k ≡ []) (event_result size w (Restart k)) x happened (spent_or (λ x. log x k ≡ []) (event_result_without_limit size w (Restart k)) (w.event_count == MAX_EVENTS) (emptied size w k (slice_get w.nodes k) refl))
+restart_empties_log size weights limit events k w x is_after happened =
+    if_taken (λ x. log x k ≡ []) (event_result size w (Restart k)) x happened (spent_or (λ x. log x k ≡ []) (event_result_without_limit size w (Restart k)) (w.event_count == w.event_limit) (emptied size w k (slice_get w.nodes k) refl))

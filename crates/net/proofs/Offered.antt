@@ -15,6 +15,6 @@ chosen_brought ws offers l sound s v c =
 
 -- each entry of a log is a no-operation or was offered
 pub log_entries_were_offered : {V : Type 0} → LogEntriesWereOffered V
-log_entries_were_offered size ws events w is_after k s v e =
-    let h = holds_after size ws events w is_after in
+log_entries_were_offered size ws limit events w is_after k s v e =
+    let h = holds_after size ws limit events w is_after in
     In-contains v (offers_of events) (chosen_brought w.weights (offers_of events) h.ledger h.sound s (Some v) (log_chosen _ w h k s (Some v) e))

@@ -15,6 +15,6 @@ proposed_in offers w h b s v p =
 
 -- under one ballot at most one value is proposed for a slot
 pub ballots_have_one_value : {V : Type 0} → BallotsHaveOneValue V
-ballots_have_one_value size ws events w is_after b s u v p q =
-    let h = holds_after size ws events w is_after in
+ballots_have_one_value size ws limit events w is_after b s u v p q =
+    let h = holds_after size ws limit events w is_after in
     h.sound.one_value (proposal b s u) (proposal b s v) (proposed_in _ w h b s u p) (proposed_in _ w h b s v q) (refl, refl)

@@ -1,13 +1,13 @@
 -- Worked runs, computed: the count of packets posted so far after each event, then the contents of
 -- single packets, and the logs.
 -- An entry is written as a number made of its author and serial: 71 is serial 1 of author 7.
-use Rattle.net.proofs.Words.{◌≡◌, ℕ, zero, suc, List, [], ◌∷◌, ◌++◌, length, Option, Some, None, Result, Ok, Err, refl, slice_get, Ballot, SlotReport, Packet, Prepare, Promise, Accept, Nack, Ask, Told, packet, Event, Offer, Begin, Deliver, Restart, StepFault, NoNode, NoPacket, World, start, event_result, after, log}
+use Rattle.net.proofs.Words.{◌≡◌, ℕ, zero, suc, List, [], ◌∷◌, ◌++◌, length, Option, Some, None, Result, Ok, Err, refl, slice_get, Ballot, SlotReport, Packet, Prepare, Promise, Accept, Nack, Ask, Told, packet, Event, Offer, Begin, Deliver, Restart, StepFault, NoNode, NoPacket, EventsSpent, World, start, event_result, after, log}
 
 abbrev size : ℕ → ℕ
 size v = 0
 
 abbrev run : List ℕ → List (Event ℕ) → Result (World ℕ) StepFault
-run weights events = after size weights events
+run weights events = after size weights 1000000 events
 
 abbrev counts_on : Result (World ℕ) StepFault → List (Event ℕ) → List ℕ
 counts_on (Err fault) es = []
@@ -16,7 +16,7 @@ counts_on (Ok w) (e ∷ es) = length w.packets ∷ counts_on (event_result size 
 
 -- the count of packets before the first event, and after each
 abbrev counts : List ℕ → List (Event ℕ) → List ℕ
-counts weights events = counts_on (Ok (start weights)) events
+counts weights events = counts_on (Ok (start weights 1000000)) events
 
 abbrev count_after : Result (World ℕ) StepFault → Option ℕ
 count_after (Err fault) = None
@@ -181,6 +181,14 @@ no_such_packet = refl
 -- a begin of a node that does not exist meets NoNode
 no_such_node : run one (Begin 1 ∷ []) ≡ Err NoNode
 no_such_node = refl
+
+-- as many events are taken as the limit allows
+limit_is_allowed : count_after (after size one 2 (Begin 0 ∷ Begin 0 ∷ [])) ≡ Some 2
+limit_is_allowed = refl
+
+-- the next event meets EventsSpent, which comes before its other faults
+limit_is_reached : after size one 2 (Begin 0 ∷ Begin 0 ∷ Begin 1 ∷ []) ≡ Err EventsSpent
+limit_is_reached = refl
 
 -- Promises in pages: 257 values, each accepted, and the promise of a second ballot.
 

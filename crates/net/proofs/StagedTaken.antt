@@ -1,5 +1,5 @@
 -- Taking a staged event, and the clauses of an answer.
-use Rattle.net.proofs.Words.{◌≡◌, ℕ, ◌<◌, ◌≤◌, List, [], ◌∷◌, ◌++◌, length, get_or, set, slice_get, Some, None, Result, Ok, Err, true, false, if◌then◌else◌, refl, ap, sym, ◌∙◌, subst, arith, append-nil, IfOk, IfErr, IsOk, OnOk, is_ok, AllocError, slice_get_within, slice_get_read, AllByRecursion, Packet, IsPost, Node, StepResult, Core, MAX_EVENTS, Event, StepFault, Memory, World, after_step, event_result_without_limit, History, AreOfWorld, StagedWork, steps, restarts, StagedEvent, posts_of, step_of, IsReadyAt, NetView, IsStaged, IsTaken, IsStagingResultInNet, all_append}
+use Rattle.net.proofs.Words.{◌≡◌, ℕ, ◌<◌, ◌≤◌, List, [], ◌∷◌, ◌++◌, length, get_or, set, slice_get, Some, None, Result, Ok, Err, true, false, if◌then◌else◌, refl, ap, sym, ◌∙◌, subst, arith, append-nil, IfOk, IfErr, IsOk, OnOk, is_ok, AllocError, slice_get_within, slice_get_read, AllByRecursion, Packet, IsPost, Node, StepResult, Core, Event, StepFault, Memory, World, after_step, event_result_without_limit, History, AreOfWorld, StagedWork, steps, restarts, StagedEvent, posts_of, step_of, IsReadyAt, NetView, IsStaged, IsTaken, IsStagingResultInNet, all_append}
 use Rattle.net.proofs.HistoryLemmas.{makes}
 use Rattle.net.proofs.EventsStaged.{nodes_found}
 
@@ -16,7 +16,7 @@ pub taken_in : {A : Type 0} (r : Result (Unit {0}) AllocError) (old more new : L
 taken_in (Ok done) old more new ok e = e
 taken_in (Err fault) old more new ok e = let no : false ≡ true = ok in cc
 
-module _ {V : Type 0} (size : V → ℕ) (view now : NetView V) (seen : view ≡ now) (h : AreOfWorld size view.history view.cores view.packets) (low : length now.history.events < MAX_EVENTS) (staged : StagedEvent V) (ready : IsStaged size now staged)
+module _ {V : Type 0} (size : V → ℕ) (view now : NetView V) (seen : view ≡ now) (h : AreOfWorld size view.history view.cores view.packets) (low : length now.history.events < now.history.event_limit) (staged : StagedEvent V) (ready : IsStaged size now staged)
     (k : ℕ) (is_at : k ≡ staged.at) (core new : Core V) (is : core ≡ get_or view.cores k core) (work : StagedWork V) (is_work : work ≡ staged.work) (node : new.node ≡ (step_of work core.node).node) where
   -- the event is staged in the view of the fields
   staged_view : IsStaged size view staged
@@ -57,26 +57,26 @@ module _ {V : Type 0} (size : V → ℕ) (view now : NetView V) (seen : view ≡
     packets_are = added ∙ ap (λ (w : StagedWork V). view.packets ++ posts_of w) is_work
 
     -- the new cores and packets are of the world after the history with the staged event
-    pub commit_world : AreOfWorld size (record { weights = view.history.weights; events = events }) (set view.cores k new) packets
+    pub commit_world : AreOfWorld size (record { weights = view.history.weights; event_limit = view.history.event_limit; events = events }) (set view.cores k new) packets
     commit_world =
-        let made = makes size view.history view.cores view.packets h (subst (λ (n : NetView V). length n.history.events < MAX_EVENTS) (sym seen) low) staged.event staged.at new step happens_is packets new_node
+        let made = makes size view.history view.cores view.packets h (subst (λ (n : NetView V). length n.history.events < n.history.event_limit) (sym seen) low) staged.event staged.at new step happens_is packets new_node
         (packets_are ∙ ap (λ (ps : List (Packet V)). view.packets ++ ps) (posts_same staged_view.core staged.work staged_view.ready))
         (subst (λ (ps : List (Packet V)). AllByRecursion (IsPost (length view.history.weights)) ps) (sym packets_are) (all_append (IsPost (length view.history.weights)) view.packets (posts_of staged.work) h.posts staged_view.posts)) in
-        subst (λ (i : ℕ). AreOfWorld size (record { weights = view.history.weights; events = events }) (set view.cores i new) packets) (sym is_at)
-        (subst (λ (es : List (Event V)). AreOfWorld size (record { weights = view.history.weights; events = es }) (set view.cores staged.at new) packets) (sym pushed) made)
+        subst (λ (i : ℕ). AreOfWorld size (record { weights = view.history.weights; event_limit = view.history.event_limit; events = events }) (set view.cores i new) packets) (sym is_at)
+        (subst (λ (es : List (Event V)). AreOfWorld size (record { weights = view.history.weights; event_limit = view.history.event_limit; events = es }) (set view.cores staged.at new) packets) (sym pushed) made)
 
     -- the staged event is taken, from the fields before to those after
     pub commit_taken : (packet_capacity event_capacity : ℕ) → view.packet_capacity ≤ packet_capacity → view.event_capacity ≤ event_capacity
-        → IsTaken now (record { history = record { weights = view.history.weights; events = events }; cores = set view.cores k new; packets = packets; packet_capacity = packet_capacity; event_capacity = event_capacity }) staged
+        → IsTaken now (record { history = record { weights = view.history.weights; event_limit = view.history.event_limit; events = events }; cores = set view.cores k new; packets = packets; packet_capacity = packet_capacity; event_capacity = event_capacity }) staged
     commit_taken packet_capacity event_capacity p e =
-        let next : NetView V = record { history = record { weights = view.history.weights; events = events }; cores = set view.cores k new; packets = packets; packet_capacity = packet_capacity; event_capacity = event_capacity } in
+        let next : NetView V = record { history = record { weights = view.history.weights; event_limit = view.history.event_limit; events = events }; cores = set view.cores k new; packets = packets; packet_capacity = packet_capacity; event_capacity = event_capacity } in
         subst (λ (n : NetView V). IsTaken n next staged) seen record {
           old_core = staged_view.core;
           at = staged_view.at;
           core = new;
           node = new_node;
           cores = ap (λ (i : ℕ). set view.cores i new) is_at;
-          history = ap (λ (es : List (Event V)). let t : History V = record { weights = view.history.weights; events = es } in t) pushed;
+          history = ap (λ (es : List (Event V)). let t : History V = record { weights = view.history.weights; event_limit = view.history.event_limit; events = es } in t) pushed;
           packets = packets_are;
           packet_capacity = p;
           event_capacity = e;

@@ -1,5 +1,5 @@
 -- A step that a node has readied, in the view of the whole net.
-use Rattle.net.proofs.Words.{◌≡◌, ℕ, ◌<◌, ◌≤◌, List, [], ◌∷◌, length, get_or, set, slice_get, Option, Some, None, Result, Ok, Err, refl, ap, sym, ◌∙◌, subst, arith, append-nil, slice_get_within, slice_get_read, AllByRecursion, Packet, Refusal, IsPost, Node, StepResult, Core, KeepsCapacity, ReadyView, offer_result, begin_result, on_packet, restarted, same_room, MAX_EVENTS, Event, Offer, Begin, Deliver, Restart, StepFault, NoNode, NoPacket, World, after_step_or_fault, at_node, delivered, event_result_without_limit, node_of_event, History, AreOfWorld, world_of, with_event, steps, StagedEvent, posts_of, step_of, IsOfEvent, HasResult, IsStagedAt, IsStagingResultAt, IsStagingResultOfEvent, NetView, EachChangesOnlyCapacity, ChangesOnlyCapacity, IsStaged, IsStagingResultInNet}
+use Rattle.net.proofs.Words.{◌≡◌, ℕ, ◌<◌, ◌≤◌, List, [], ◌∷◌, length, get_or, set, slice_get, Option, Some, None, Result, Ok, Err, refl, ap, sym, ◌∙◌, subst, arith, append-nil, slice_get_within, slice_get_read, AllByRecursion, Packet, Refusal, IsPost, Node, StepResult, Core, KeepsCapacity, ReadyView, offer_result, begin_result, on_packet, restarted, same_room, Event, Offer, Begin, Deliver, Restart, StepFault, NoNode, NoPacket, World, after_step_or_fault, at_node, delivered, event_result_without_limit, node_of_event, History, AreOfWorld, world_of, with_event, steps, StagedEvent, posts_of, step_of, IsOfEvent, HasResult, IsStagedAt, IsStagingResultAt, IsStagingResultOfEvent, NetView, EachChangesOnlyCapacity, ChangesOnlyCapacity, IsStaged, IsStagingResultInNet}
 use Rattle.synod.specs.Ready.{IsStagingResult as ReadiesStep}
 use Rattle.net.proofs.GrowingLists.{at_set}
 use Rattle.net.proofs.HistoryLemmas.{next_is, node_shown, no_node_shown, own_weights, rooms_stay}
@@ -26,10 +26,10 @@ packet_is ps number p q is at = let both : Some p ≡ Some q = sym (slice_get_re
 
 -- From the answer of a node to that of the net, `view` being the fields.
 
-module _ {V : Type 0} (size : V → ℕ) (view now : NetView V) (seen : view ≡ now) (h : AreOfWorld size view.history view.cores view.packets) (low : length now.history.events < MAX_EVENTS) where
+module _ {V : Type 0} (size : V → ℕ) (view now : NetView V) (seen : view ≡ now) (h : AreOfWorld size view.history view.cores view.packets) (low : length now.history.events < now.history.event_limit) where
   -- the history of the fields is below the limit of events
-  still_low : length view.history.events < MAX_EVENTS
-  still_low = subst (λ (n : NetView V). length n.history.events < MAX_EVENTS) (sym seen) low
+  still_low : length view.history.events < view.history.event_limit
+  still_low = subst (λ (n : NetView V). length n.history.events < n.history.event_limit) (sym seen) low
 
   -- the history with the event leads to the result of the event in the world
   met_is : (e : Event V) (r : Result (World V) StepFault) → event_result_without_limit size h.world e ≡ r → world_of size (with_event now.history e) ≡ r
@@ -134,11 +134,11 @@ module _ {V : Type 0} (size : V → ℕ) (view now : NetView V) (seen : view ≡
 -- if packets and events get more room, only rooms change
 pub still_room : {V : Type 0} (view now : NetView V) (packets : List (Packet V)) (events : List (Event V)) (packet_capacity event_capacity : ℕ) → view ≡ now → packets ≡ view.packets → events ≡ view.history.events
     → view.packet_capacity ≤ packet_capacity → view.event_capacity ≤ event_capacity
-    → ChangesOnlyCapacity now (record { history = record { weights = view.history.weights; events = events }; cores = view.cores; packets = packets; packet_capacity = packet_capacity; event_capacity = event_capacity })
+    → ChangesOnlyCapacity now (record { history = record { weights = view.history.weights; event_limit = view.history.event_limit; events = events }; cores = view.cores; packets = packets; packet_capacity = packet_capacity; event_capacity = event_capacity })
 still_room {V} view now packets events packet_capacity event_capacity seen same_packets same_events p e =
-    let new : NetView V = record { history = record { weights = view.history.weights; events = events }; cores = view.cores; packets = packets; packet_capacity = packet_capacity; event_capacity = event_capacity } in
+    let new : NetView V = record { history = record { weights = view.history.weights; event_limit = view.history.event_limit; events = events }; cores = view.cores; packets = packets; packet_capacity = packet_capacity; event_capacity = event_capacity } in
     subst (λ (n : NetView V). ChangesOnlyCapacity n new) seen record {
-      history = ap (λ (es : List (Event V)). let t : History V = record { weights = view.history.weights; events = es } in t) same_events;
+      history = ap (λ (es : List (Event V)). let t : History V = record { weights = view.history.weights; event_limit = view.history.event_limit; events = es } in t) same_events;
       cores = still_same view.cores;
       packets = same_packets;
       packet_capacity = p;

@@ -1,5 +1,5 @@
--- From one moment of a run to a later one the weights stay, and votes that were cast remain cast;
--- so a chosen value remains chosen.
+-- From one moment of a run to a later one the weights and the limit stay, and votes that were cast
+-- remain cast; so a chosen value remains chosen.
 use Rattle.net.proofs.Words.{◌≡◌, ℕ, List, [], ◌∷◌, ◌++◌, Option, Some, None, Result, Ok, Err, inr, refl, ap, sym, ◌∙◌, subst, length, slice_get, length-set, AllByRecursion, In, Change, Round, Entry, Packet, Refusal, Node, StepResult, offer_result, begin_result, on_packet, restarted, Event, Offer, Begin, Deliver, Restart, StepFault, Vote, IsChosen, World, start, votes_after, after_step_or_fault, at_node, delivered, event_result_without_limit, event_result, events_result, after, IsAfter}
 use Rattle.synod.specs.declared.change.Change.TheVariants.{Promise}
 use Rattle.net.proofs.LedgerGrows.{chosen_with_more}
@@ -7,6 +7,7 @@ use Rattle.net.proofs.EveryEvent.{IfTaken, if_taken, all_keep}
 
 pub record Lasts {V : Type 0} (w x : World V) : Type 0 where
   pub weights : x.weights ≡ w.weights
+  pub limit : x.event_limit ≡ w.event_limit
   pub count : length x.nodes ≡ length w.nodes
   pub votes : (v : Vote V) → In v w.votes_cast → In v x.votes_cast
 
@@ -18,27 +19,30 @@ votes_stay k (Some (Promise b)) votes v i = i
 votes_stay k (Some (Entry s h)) votes v i = inr i
 
 module _ {V : Type 0} (first w : World V) (h : Lasts first w) where
-  -- weights, the count of nodes and votes are preserved by the answer of a node
+  -- weights, limit, the count of nodes and votes are preserved by the answer of a node
   lasts_answered : (k : ℕ) (r : Result (StepResult V) Refusal) → IfTaken (after_step_or_fault w k r) (Lasts first)
-  lasts_answered k (Ok step) = record { weights = h.weights; count = length-set w.nodes k step.node ∙ h.count; votes = λ v i. votes_stay k step.change w.votes_cast v (h.votes v i) }
+  lasts_answered k (Ok step) = record { weights = h.weights; limit = h.limit; count = length-set w.nodes k step.node ∙ h.count; votes = λ v i. votes_stay k step.change w.votes_cast v (h.votes v i) }
   lasts_answered k (Err refusal) = tt
 
-  -- weights, the count of nodes and votes are preserved by the answer of a node, if it exists
+  -- weights, limit, the count of nodes and votes are preserved by the answer of a node, if it exists
   lasts_at : (k : ℕ) (make : Node V → Result (StepResult V) Refusal) (o : Option (Node V)) → IfTaken (at_node w k make o) (Lasts first)
   lasts_at k make None = tt
   lasts_at k make (Some n) = lasts_answered k (make n)
 
-  -- weights, the count of nodes and votes are preserved by a delivery
+  -- weights, limit, the count of nodes and votes are preserved by a delivery
   lasts_delivered : (o : Option (Packet V)) → IfTaken (delivered w o) (Lasts first)
   lasts_delivered None = tt
   lasts_delivered (Some p) = lasts_at p.to (λ n. Ok (on_packet n p)) (slice_get w.nodes p.to)
 
-  -- weights, the count of nodes and votes are preserved by each event
-  lasts_happens : (size : V → ℕ) (e : Event V) → IfTaken (event_result_without_limit size w e) (Lasts first)
+  -- weights, limit, the count of nodes and votes are preserved by each event
+  pub lasts_happens : (size : V → ℕ) (e : Event V) → IfTaken (event_result_without_limit size w e) (Lasts first)
   lasts_happens size (Offer k v) = lasts_at k (λ n. offer_result size n v) (slice_get w.nodes k)
   lasts_happens size (Begin k) = lasts_at k begin_result (slice_get w.nodes k)
   lasts_happens size (Deliver number) = lasts_delivered (slice_get w.packets number)
   lasts_happens size (Restart k) = lasts_at k (λ n. Ok (restarted n)) (slice_get w.nodes k)
+
+pub lasts_itself : {V : Type 0} (w : World V) → Lasts w w
+lasts_itself w = record { weights = refl; limit = refl; count = refl; votes = λ v i. i }
 
 -- the trivial condition holds of each event
 each_event : {V : Type 0} (es : List (Event V)) → AllByRecursion (λ e. Unit {0}) es
@@ -52,14 +56,14 @@ events_result-append size (e ∷ es) (d ∷ ds) (Err fault) = refl
 events_result-append size (e ∷ es) ds (Ok w) = events_result-append size es ds (event_result size w e)
 
 -- the later events lead from the world of the earlier moment to the result of all
-pub later_events : {V : Type 0} (size : V → ℕ) (ws : List ℕ) (early late : List (Event V)) (w : World V) (r : Result (World V) StepFault) → IsAfter size ws early w → after size ws (early ++ late) ≡ r → events_result size late (Ok w) ≡ r
-later_events size ws early late w r first then = ap (λ r. events_result size late r) (sym first) ∙ sym (events_result-append size early late (Ok (start ws))) ∙ then
+pub later_events : {V : Type 0} (size : V → ℕ) (ws : List ℕ) (limit : ℕ) (early late : List (Event V)) (w : World V) (r : Result (World V) StepFault) → IsAfter size ws limit early w → after size ws limit (early ++ late) ≡ r → events_result size late (Ok w) ≡ r
+later_events size ws limit early late w r first then = ap (λ r. events_result size late r) (sym first) ∙ sym (events_result-append size early late (Ok (start ws limit))) ∙ then
 
-module _ {V : Type 0} (size : V → ℕ) (ws : List ℕ) (early late : List (Event V)) (w x : World V) (first : IsAfter size ws early w) (then : IsAfter size ws (early ++ late) x) where
-  -- weights, the count of nodes and votes are preserved from the earlier moment to the later
+module _ {V : Type 0} (size : V → ℕ) (ws : List ℕ) (limit : ℕ) (early late : List (Event V)) (w x : World V) (first : IsAfter size ws limit early w) (then : IsAfter size ws limit (early ++ late) x) where
+  -- weights, limit, the count of nodes and votes are preserved from the earlier moment to the later
   pub world_lasts : Lasts w x
-  world_lasts = if_taken (Lasts w) (events_result size late (Ok w)) x (later_events size ws early late w (Ok x) first then)
-      (all_keep size (Lasts w) (λ e. Unit {0}) (λ y e u h. lasts_happens w y h size e) late (each_event late) (Ok w) record { weights = refl; count = refl; votes = λ v i. i })
+  world_lasts = if_taken (Lasts w) (events_result size late (Ok w)) x (later_events size ws limit early late w (Ok x) first then)
+      (all_keep size (Lasts w) (λ e. Unit {0}) (λ y e u h. lasts_happens w y h size e) late (each_event late) (Ok w) (lasts_itself w))
 
   -- if a value is chosen at the earlier moment, it is chosen at the later
   pub stays_chosen : (s : ℕ) (v : Option V) → IsChosen w.weights w.votes_cast s v → IsChosen x.weights x.votes_cast s v

@@ -9,7 +9,6 @@ pub use Rattle.net.specs.History.{AreOfWorld, History, nodes_of, with_event, wor
 pub use Rattle.net.specs.World.{World, after, events_result, after_step_or_fault, at_node, delivered, event_result, event_result_without_limit, log, log_after, log_at, nodes_from, offers_of, packets_after, start, after_step, votes_after}
 pub use Rattle.net.specs.declared.event.Event.{Event}
 pub use Rattle.net.specs.declared.event.Event.TheVariants.{Begin, Deliver, Offer, Restart}
-pub use Rattle.net.specs.declared.event.TheConstants.{MAX_EVENTS}
 pub use Rattle.net.specs.declared.fault.StepFault.{StepFault}
 pub use Rattle.net.specs.declared.fault.StepFault.TheVariants.{EventsSpent, Memory, NoNode, NoPacket}
 pub use Rattle.slots.proofs.Lists.{Contains-in, In, In-append, In-append_left, In-append_right, In-contains}

@@ -8,8 +8,8 @@ use Rattle.net.specs.Chosen.{IsChosen, IsChosenAt}
 use Rattle.net.specs.World.{World, after, log, offers_of}
 
 -- the events are taken, and w is the world after them
-abbrev pub IsAfter : {V : Type 0} → (V → ℕ) → List ℕ → List (Event V) → World V → Type 0
-IsAfter size weights events w = after size weights events ≡ Ok w
+abbrev pub IsAfter : {V : Type 0} → (V → ℕ) → List ℕ → ℕ → List (Event V) → World V → Type 0
+IsAfter size weights limit events w = after size weights limit events ≡ Ok w
 
 -- v was proposed at slot s under ballot b
 abbrev pub IsProposed : {V : Type 0} → World V → Ballot → ℕ → Option V → Type 0

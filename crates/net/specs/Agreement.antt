@@ -12,7 +12,7 @@ use Rattle.net.specs.History.{History, world_of}
 pub record IsMoment {V : Type 0} (size : V → ℕ) (history : History V) (w : World V) : Type 0 where
   pub early : List (Event V)
   pub begins : IsPrefixOf early history.events
-  pub is_after : IsAfter size history.weights early w
+  pub is_after : IsAfter size history.weights history.event_limit early w
 
 pub record Agreement {V : Type 0} (size : V → ℕ) (history : History V) : Type 0 where
   -- no event of the history meets a fault
@@ -40,6 +40,6 @@ IsMetOrMemory (Err met) fault = fault ≡ met
 -- the run stops at event i, from 0: the first i events are taken, and the fault is the one that
 -- event i meets, or Memory if it meets none; or an allocation for the new nodes failed before the
 -- first event
-pub record RunStopsAt {V : Type 0} (size : V → ℕ) (weights : List ℕ) (events : List (Event V)) (i : ℕ) (fault : StepFault) : Type 0 where
-  pub before : IsOk (after size weights (take i events))
-  pub fault_is : ((i < length events) × IsMetOrMemory (after size weights (take (suc i) events)) fault) ⊎ ((i ≡ 0) × (fault ≡ Memory))
+pub record RunStopsAt {V : Type 0} (size : V → ℕ) (weights : List ℕ) (limit : ℕ) (events : List (Event V)) (i : ℕ) (fault : StepFault) : Type 0 where
+  pub before : IsOk (after size weights limit (take i events))
+  pub fault_is : ((i < length events) × IsMetOrMemory (after size weights limit (take (suc i) events)) fault) ⊎ ((i ≡ 0) × (fault ≡ Memory))

@@ -1,5 +1,5 @@
--- The history of a net: its weights and the events that it took. Its nodes and packets are those of
--- the world after them.
+-- The history of a net: its weights, its limit on events, and the events that it took. Its nodes
+-- and packets are those of the world after them.
 -- Source: Lamport, Paxos Made Simple, section 3: the inputs of a state machine determine its run.
 -- The code stores nodes and packets too; by the invariant of `Net` they are those of the world
 -- after the events.
@@ -10,6 +10,7 @@ use Rattle.net.specs.Agree.{IsAfter}
 
 pub record History (V : Type 0) : Type 0 where
   pub weights : List ℕ
+  pub event_limit : ℕ  -- the number of events that the net takes
   pub events : List (Event V)
 
 -- the nodes, without their reserved capacity
@@ -20,7 +21,7 @@ nodes_of (core ∷ cores) = core.node ∷ nodes_of cores
 -- the nodes and the packets are those of the world after the events
 pub record AreOfWorld {V : Type 0} (size : V → ℕ) (history : History V) (cores : List (Core V)) (packets : List (Packet V)) : Type 0 where
   pub world : World V
-  pub is_after : IsAfter size history.weights history.events world
+  pub is_after : IsAfter size history.weights history.event_limit history.events world
   pub nodes : world.nodes ≡ nodes_of cores
   pub posted : world.packets ≡ packets
   pub weights : IsWeights history.weights
@@ -28,8 +29,8 @@ pub record AreOfWorld {V : Type 0} (size : V → ℕ) (history : History V) (cor
 
 -- the world after the events taken
 abbrev pub world_of : {V : Type 0} → (V → ℕ) → History V → Result (World V) StepFault
-world_of size history = after size history.weights history.events
+world_of size history = after size history.weights history.event_limit history.events
 
 -- the history with one more event
 abbrev pub with_event : {V : Type 0} → History V → Event V → History V
-with_event history e = record { weights = history.weights; events = history.events ++ e ∷ [] }
+with_event history e = record { weights = history.weights; event_limit = history.event_limit; events = history.events ++ e ∷ [] }

@@ -1,5 +1,5 @@
--- The laws of the world, after every list of events of which none meets a fault, for any weights
--- and any values.
+-- The laws of the world, after every list of events of which none meets a fault, for any weights,
+-- any limit on events and any values.
 -- Source: Lamport, Paxos Made Simple, section 2.2.
 -- A law has no code; it is about the steps of nodes that the contracts of `synod` cite.
 use Rattle.std.specs.Prelude.{◌≡◌, ◌≢◌, ℕ, List, [], ◌∷◌, ◌++◌, Some, Ok}
@@ -10,12 +10,12 @@ use Rattle.net.specs.KeptPart.{kept_part, node_of, change_of, AreOfOthers}
 
 -- the fact holds of the world after any events
 abbrev pub Always : {V : Type 0} → (List (Event V) → World V → Type 0) → Type 0
-Always {V} fact = (size : V → ℕ) (weights : List ℕ) (events : List (Event V)) (w : World V) → IsAfter size weights events w → fact events w
+Always {V} fact = (size : V → ℕ) (weights : List ℕ) (limit : ℕ) (events : List (Event V)) (w : World V) → IsAfter size weights limit events w → fact events w
 
 -- the fact holds of the worlds at any two moments of a run
 abbrev pub AtTwoMoments : {V : Type 0} → (World V → World V → Type 0) → Type 0
-AtTwoMoments {V} fact = (size : V → ℕ) (weights : List ℕ) (early late : List (Event V)) (w x : World V)
-    → IsAfter size weights early w → IsAfter size weights (early ++ late) x → fact w x
+AtTwoMoments {V} fact = (size : V → ℕ) (weights : List ℕ) (limit : ℕ) (early late : List (Event V)) (w x : World V)
+    → IsAfter size weights limit early w → IsAfter size weights limit (early ++ late) x → fact w x
 
 -- Agreement.
 
@@ -49,19 +49,19 @@ LogEntriesWereOffered V = Always {V = V} (λ events w. LogsOffered events w)
 -- change of e, whatever happens at other nodes in between; so it does not matter whether any packet
 -- of e is delivered to them
 abbrev pub KeptPartSurvives : Type 0 → Type 0
-KeptPartSurvives V = (size : V → ℕ) (weights : List ℕ) (events others : List (Event V)) (e : Event V) (k : ℕ) (w x y : World V)
-    → IsAfter size weights events w → event_result size w e ≡ Ok x → node_of w e ≡ Some k → AreOfOthers size k (Ok x) others
-    → IsAfter size weights (events ++ e ∷ (others ++ Restart k ∷ [])) y
+KeptPartSurvives V = (size : V → ℕ) (weights : List ℕ) (limit : ℕ) (events others : List (Event V)) (e : Event V) (k : ℕ) (w x y : World V)
+    → IsAfter size weights limit events w → event_result size w e ≡ Ok x → node_of w e ≡ Some k → AreOfOthers size k (Ok x) others
+    → IsAfter size weights limit (events ++ e ∷ (others ++ Restart k ∷ [])) y
     → kept_part y k ≡ option_map (λ kept. changed_by kept (change_of size w e)) (kept_part w k)
 
 -- Logs.
 
 -- after an event other than a restart of node k, the old log of k is a prefix of the new one
 abbrev pub LogsOnlyGrow : Type 0 → Type 0
-LogsOnlyGrow V = (size : V → ℕ) (weights : List ℕ) (events : List (Event V)) (e : Event V) (k : ℕ) (w x : World V)
-    → IsAfter size weights events w → event_result size w e ≡ Ok x → e ≢ Restart k → IsPrefixOf (log w k) (log x k)
+LogsOnlyGrow V = (size : V → ℕ) (weights : List ℕ) (limit : ℕ) (events : List (Event V)) (e : Event V) (k : ℕ) (w x : World V)
+    → IsAfter size weights limit events w → event_result size w e ≡ Ok x → e ≢ Restart k → IsPrefixOf (log w k) (log x k)
 
 -- a restart of node k empties its log
 abbrev pub RestartEmptiesLog : Type 0 → Type 0
-RestartEmptiesLog V = (size : V → ℕ) (weights : List ℕ) (events : List (Event V)) (k : ℕ) (w x : World V)
-    → IsAfter size weights events w → event_result size w (Restart k) ≡ Ok x → log x k ≡ []
+RestartEmptiesLog V = (size : V → ℕ) (weights : List ℕ) (limit : ℕ) (events : List (Event V)) (k : ℕ) (w x : World V)
+    → IsAfter size weights limit events w → event_result size w (Restart k) ≡ Ok x → log x k ≡ []

@@ -5,6 +5,7 @@ pub mod Chosen
 pub mod Agree
 pub mod KeptPart
 pub mod Laws
+pub mod Crash
 pub mod History
 pub mod Agreement
 pub mod Staged

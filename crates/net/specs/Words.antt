@@ -1,7 +1,6 @@
 -- Re-exports names that the specifications of this crate use; they import other names directly.
 pub use Rattle.net.specs.declared.event.Event.{Event}
 pub use Rattle.net.specs.declared.event.Event.TheVariants.{Begin, Deliver, Offer, Restart}
-pub use Rattle.net.specs.declared.event.TheConstants.{MAX_EVENTS}
 pub use Rattle.net.specs.declared.fault.StepFault.{StepFault}
 pub use Rattle.net.specs.declared.fault.StepFault.TheVariants.{Busy, EventsSpent, LogFull, Memory, NoNode, NoPacket, RoundsSpent, TooLong}
 pub use Rattle.std.specs.List.{AllByRecursion}

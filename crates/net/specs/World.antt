@@ -6,7 +6,7 @@
 -- has every vote.
 use Rattle.std.specs.Prelude.{◌≡◌, ℕ, suc, ◌+◌, ◌==◌, List, [], ◌∷◌, ◌++◌, Option, Some, None, MatchOption, Result, Ok, Err, slice_get, slice_set, if◌then◌else◌}
 use Rattle.std.specs.Borrow.{Bor}
-use Rattle.net.specs.Words.{Packet, Change, Round, Promise, Entry, Refusal, Node, StepResult, new_node, log_of, offer_result, begin_result, on_packet, restarted, MAX_EVENTS, Event, Offer, Begin, Deliver, Restart, StepFault, Busy, LogFull, RoundsSpent, TooLong, Memory, NoNode, NoPacket, EventsSpent}
+use Rattle.net.specs.Words.{Packet, Change, Round, Promise, Entry, Refusal, Node, StepResult, new_node, log_of, offer_result, begin_result, on_packet, restarted, Event, Offer, Begin, Deliver, Restart, StepFault, Busy, LogFull, RoundsSpent, TooLong, Memory, NoNode, NoPacket, EventsSpent}
 use Rattle.synod.specs.declared.refusal.Refusal.TheVariants.{Busy as NodeBusy, LogFull as NodeLogFull, RoundsSpent as NodeRoundsSpent, TooLong as NodeTooLong, Memory as NodeMemory}
 use Rattle.net.specs.Chosen.{Vote, vote}
 
@@ -16,6 +16,7 @@ pub record World (V : Type 0) : Type 0 where
   pub packets : List (Packet V)  -- every packet ever posted, in the order of posting
   pub votes_cast : List (Vote V)  -- every vote ever cast, newest first
   pub event_count : ℕ  -- the number of events taken
+  pub event_limit : ℕ  -- the number of events that the world takes
 
 -- a new node for each weight of the second list, numbered from k; the first list has the weights of
 -- all nodes of the log
@@ -23,9 +24,9 @@ abbrev pub nodes_from : {V : Type 0} → List ℕ → ℕ → List ℕ → List 
 nodes_from weights k [] = []
 nodes_from weights k (w ∷ ws) = new_node k weights ∷ nodes_from weights (suc k) ws
 
--- the world before any event
-abbrev pub start : {V : Type 0} → List ℕ → World V
-start weights = record { weights = weights; nodes = nodes_from weights 0 weights; packets = []; votes_cast = []; event_count = 0 }
+-- the world before any event, with a limit on the number of events
+abbrev pub start : {V : Type 0} → List ℕ → ℕ → World V
+start weights limit = record { weights = weights; nodes = nodes_from weights 0 weights; packets = []; votes_cast = []; event_count = 0; event_limit = limit }
 
 -- the refusal of a node, as the fault of the event
 abbrev pub fault_of : Refusal → StepFault
@@ -50,6 +51,7 @@ after_step w k step = record {
   packets = w.packets ++ step.posts;
   votes_cast = votes_after k step.change w.votes_cast;
   event_count = w.event_count + 1;
+  event_limit = w.event_limit;
 }
 
 -- the world after a step of node k, or the refusal as a fault
@@ -77,7 +79,7 @@ event_result_without_limit size w (Restart k) = at_node w k (λ n. Ok (restarted
 
 -- the world after the event, or the fault that the event meets
 abbrev pub event_result : {V : Type 0} → (V → ℕ) → World V → Event V → Result (World V) StepFault
-event_result size w e = if w.event_count == MAX_EVENTS then Err EventsSpent else event_result_without_limit size w e
+event_result size w e = if w.event_count == w.event_limit then Err EventsSpent else event_result_without_limit size w e
 
 -- the world after these events in turn, or the first fault
 abbrev pub events_result : {V : Type 0} → (V → ℕ) → List (Event V) → Result (World V) StepFault → Result (World V) StepFault
@@ -85,10 +87,10 @@ events_result size [] r = r
 events_result size (e ∷ es) (Err fault) = Err fault
 events_result size (e ∷ es) (Ok w) = events_result size es (event_result size w e)
 
--- the world after these events, or the fault of the first that is refused; size gives the length of
--- a value
-abbrev pub after : {V : Type 0} → (V → ℕ) → List ℕ → List (Event V) → Result (World V) StepFault
-after size weights events = events_result size events (Ok (start weights))
+-- the world of these weights and this limit after these events, or the fault of the first that is
+-- refused; size gives the length of a value
+abbrev pub after : {V : Type 0} → (V → ℕ) → List ℕ → ℕ → List (Event V) → Result (World V) StepFault
+after size weights limit events = events_result size events (Ok (start weights limit))
 
 -- the log of the node; None in a log is a no-operation
 abbrev pub log_at : {V : Type 0} → Option (Node V) → List (Option V)

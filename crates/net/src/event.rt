@@ -1,8 +1,5 @@
 //! The events of a world.
 
-/// The maximum number of events that a world takes.
-pub const MAX_EVENTS: u64 = 1_000_000;
-
 /// An event: a step of one node.
 #[derive(Drop)]
 pub enum Event<V> {

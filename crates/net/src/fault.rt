@@ -31,7 +31,7 @@ pub enum StepFault {
     /// No packet has this number.
     #[error("no such packet")]
     NoPacket,
-    /// The world has taken `MAX_EVENTS` events.
+    /// The world has taken as many events as its limit allows.
     #[error("no event is left")]
     EventsSpent,
     /// A store or a load of the node's record failed. Only `switch` and the crates above it return

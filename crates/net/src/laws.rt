@@ -1,8 +1,9 @@
 //! The laws of agreement, each the contract of a function that does nothing.
+ghost use Rattle.net.specs.Crash.{CrashesLeaveEvents, CrashesOnlyRestart, LogsAgreeAcrossCrash};
 ghost use Rattle.net.specs.Laws.{BallotsHaveOneValue, ChosenValuesPersist, ChosenValuesAgree, LogEntriesAreChosen, LogsOfNodesAgree, LogEntriesWereOffered, KeptPartSurvives, LogsOnlyGrow, RestartEmptiesLog};
 
 /// States agreement after any events of which none meets a fault, whatever was lost, repeated or
-/// delayed and whichever nodes restarted, for any weights and any values.
+/// delayed and whichever nodes restarted, for any weights, any limit on events and any values.
 ///
 /// Source: Lamport, Paxos Made Simple, section 2.2.
 pub fn agreement<V>()
@@ -27,4 +28,21 @@ pub fn kept_part<V>()
 pub fn logs_grow<V>()
     ensures grows { LogsOnlyGrow V }
     ensures restart { RestartEmptiesLog V }
+{}
+
+/// States that a crash of all nodes only restarts them.
+///
+/// A crash leaves each node with its kept part, or with that and the change of its event under way,
+/// which was stored and not yet committed: these are the kept parts after the events before and
+/// some of those under way. Nodes that begin with them, in a new process whose packets and events
+/// count from 0, go on with the run: what the new process takes is taken behind the events before
+/// and the restarts of all nodes, with the packets from before lost. So the logs of any two nodes
+/// agree also across a crash, and across any number of crashes, since a further crash may end this
+/// run.
+///
+/// Source: Lamport, Paxos Made Simple, section 2.5.
+pub fn crash<V>()
+    ensures left { CrashesLeaveEvents V }
+    ensures one_run { CrashesOnlyRestart V }
+    ensures logs_agree { LogsAgreeAcrossCrash V }
 {}

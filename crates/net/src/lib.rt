@@ -17,8 +17,8 @@ mod net;
 mod node_state;
 mod staged;
 
-pub use event::{Event, MAX_EVENTS};
+pub use event::Event;
 pub use fault::StepFault;
-pub use laws::{agreement, kept_part, logs_grow};
+pub use laws::{agreement, crash, kept_part, logs_grow};
 pub use net::Net;
 pub use staged::StagedEvent;

@@ -5,21 +5,23 @@ ghost use Rattle.net.specs.History.{nodes_of};
 ghost use Rattle.net.specs.World.{nodes_from};
 ghost use Rattle.std.specs.Prelude.{◌≡◌, ◌↔◌, ◌≤◌, ◌<◌, ◌++◌, [], Ok, Err, Some, None, length, vec_len, vec_capacity, IfOk, IsOk, OnOk, OnErr, IsOkUnless, MatchResult};
 
-use crate::event::{Event, MAX_EVENTS};
+use crate::event::Event;
 use crate::fault::StepFault;
 use crate::staged::{StagedEvent, commit_at, stage_event};
 use std::alloc::{AllocError, Global};
 use std::marker::Model;
 use synod::{NodeCore, Packet, Value, Weights};
 
-/// The nodes of a world and their packets. Contracts see the weights, the events taken, the nodes
-/// and packets of the world after them, and the reserved capacity.
+/// The nodes of a world and their packets. Contracts see the weights, the limit on events, the
+/// events taken, the nodes and packets of the world after them, and the reserved capacity.
 ///
 /// Source: Lamport, Paxos Made Simple, sections 2 and 3; `specs/World.antt` defines the world after
 /// a list of events.
 #[derive(Drop)]
 pub struct Net<V: Value> {
     weights: Weights,
+    /// The number of events that the net takes.
+    event_limit: u64,
     pub(crate) nodes: Vec<NodeCore<V>>,
     packets: Vec<Packet<V>>,
     events: Vec<Event<V>>,
@@ -33,14 +35,14 @@ impl<V: Value> Model for Net<V> {
     ghost Value = { NetView V };
 
     ghost view = { λ w. record {
-      history = record { weights = w.weights; events = w.events.items };
+      history = record { weights = w.weights; event_limit = w.event_limit; events = w.events.items };
       cores = w.nodes.items;
       packets = w.packets.items;
       packet_capacity = vec_capacity w.packets;
       event_capacity = vec_capacity w.events;
     } };
 
-    ghost invariant = { λ w. AreOfWorld V.bytes (record { weights = w.weights; events = w.events.items }) w.nodes.items w.packets.items };
+    ghost invariant = { λ w. AreOfWorld V.bytes (record { weights = w.weights; event_limit = w.event_limit; events = w.events.items }) w.nodes.items w.packets.items };
 }
 
 impl<V: Value> Net<V> {
@@ -53,16 +55,18 @@ impl<V: Value> Net<V> {
     ghost use Rattle.net.specs.Agreement.{Agreement};
     ghost use Rattle.net.specs.declared.fault.StepFault.TheVariants.{NoNode, NoPacket, Memory};
 
-    /// Creates a net with a new node for each weight. It has taken no events.
+    /// Creates a net with a new node for each weight, which takes at most `event_limit` events. It
+    /// has taken none.
     ///
     /// Errors: `Memory`.
-    pub fn new(alloc: Global, weights: Weights) -> Result<Self, StepFault>
-        ensures new { IfOk result (λ net. net.history ≡ record { weights = weights; events = [] }) }
+    pub fn new(alloc: Global, weights: Weights, event_limit: u64) -> Result<Self, StepFault>
+        ensures new { IfOk result (λ net. net.history ≡ record { weights = weights; event_limit = event_limit; events = [] }) }
         ensures world { IfOk result (λ net. AreOfWorld V.bytes net.history net.cores net.packets) }
         ensures only_memory { IsOkUnless result Memory }
     {
         Ok(Net {
             weights,
+            event_limit,
             nodes: new_nodes(alloc, weights)?,
             packets: Vec::new(alloc),
             events: Vec::new(alloc),
@@ -83,9 +87,9 @@ impl<V: Value> Net<V> {
         ensures refused { IfErr (world_of V.bytes (with_event self.old.history event)) (λ fault. result ≡ Err fault) }
         ensures only_memory { OnOk (world_of V.bytes (with_event self.old.history event)) (IsOkUnless result Memory) }
         ensures only_capacity { ChangesOnlyCapacity self.old self.new }
-        ensures few { IfOk result (λ _. length self.old.history.events < MAX_EVENTS) }
+        ensures few { IfOk result (λ _. length self.old.history.events < self.old.history.event_limit) }
     {
-        if self.events.len() as u64 == MAX_EVENTS {
+        if self.events.len() as u64 == self.event_limit {
             return Err(StepFault::EventsSpent);
         }
         let staged = self.stage_at_node(event)?;
@@ -112,7 +116,7 @@ impl<V: Value> Net<V> {
     /// Stages an event at its node, and reserves no capacity for its posts among the packets of the
     /// net.
     fn stage_at_node(&mut self, event: Event<V>) -> Result<StagedEvent<V>, StepFault>
-        requires { length self.old.history.events < MAX_EVENTS }
+        requires { length self.old.history.events < self.old.history.event_limit }
         ensures staged { IsStagingResultInNet V.bytes self.new event (world_of V.bytes (with_event self.old.history event)) result }
         ensures only_capacity { ChangesOnlyCapacity self.old self.new }
     {
@@ -143,7 +147,7 @@ impl<V: Value> Net<V> {
     pub fn commit(&mut self, staged: StagedEvent<V>) -> u64
         requires staged { IsStaged V.bytes self.old staged }
         requires capacity { HasSpareCapacity self.old (length (posts_of staged.work)) 1 }
-        requires few { length self.old.history.events < MAX_EVENTS }
+        requires few { length self.old.history.events < self.old.history.event_limit }
         ensures taken { IsTaken self.old self.new staged }
         ensures posted { result ≡ length (packets_after (world_of V.bytes self.new.history)) }
     {
@@ -176,11 +180,18 @@ impl<V: Value> Net<V> {
     /// after every prefix of them.
     pub fn history(&self) -> &[Event<V>]
         ensures events { result.now ≡ self.now.history.events }
-        ensures few { length self.now.history.events ≤ MAX_EVENTS }
+        ensures few { length self.now.history.events ≤ self.now.history.event_limit }
         ensures agreement { Agreement V.bytes self.now.history }
         ensures world { AreOfWorld V.bytes self.now.history self.now.cores self.now.packets }
     {
         &self.events
+    }
+
+    /// Returns the number of events that the net takes.
+    pub fn event_limit(&self) -> u64
+        ensures { result ≡ self.now.history.event_limit }
+    {
+        self.event_limit
     }
 
     /// Returns entry `slot` of the log of node `k`, or `None` if the log is not that long. An entry

@@ -1,4 +1,5 @@
 pub mod Words
+mod QuestionsLemmas
 mod ReportLemmas
 mod CountLemmas
 mod DeskLemmas

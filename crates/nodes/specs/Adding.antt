@@ -6,7 +6,7 @@ use Rattle.cluster.specs.Outcome.{IsOutcomeOf}
 use Rattle.library.specs.declared.entry.Entry.{Entry}
 use Rattle.net.specs.declared.event.Event.TheVariants.{Offer, Begin}
 use Rattle.net.specs.declared.fault.StepFault.TheVariants.{Memory, NoNode}
-use Rattle.nodes.specs.Words.{Verdict, Carried, Cell, StepFault, Apart}
+use Rattle.nodes.specs.Words.{Verdict, Cell, StepFault, Apart}
 use Rattle.nodes.specs.Desk.{IsPlayFault}
 use Rattle.nodes.specs.Questions.{IsOfNode}
 

@@ -27,7 +27,6 @@ mod shared_switch;
 mod weather;
 
 pub use desk::Desk;
-pub use node_threads::{Cluster, start};
-pub use questions::NodeStatus;
+pub use node_threads::{Cluster, ClusterSetup, start};
 pub use report::Report;
 pub use weather::{Clear, Fate, Weather};

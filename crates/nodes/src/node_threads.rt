@@ -48,9 +48,19 @@ impl<G: Gate, K: Keep<Carried>> Model for Cluster<G, K> {
     ghost invariant = { λ c. vec_len (arc_value c.shared).cells ≡ c.node_count };
 }
 
+/// What is fixed when the nodes of a cluster are started.
+#[derive(Clone, Copy)]
+pub struct ClusterSetup {
+    pub weights: Weights,
+    /// The number of events that the nodes take.
+    pub event_limit: u64,
+    /// How many threads check the proofs of each entry that a node applies.
+    pub workers: PoolSize,
+}
+
 /// Starts the nodes' threads: for each weight a node with its keep, whose record is that of a new
-/// node, and its weather. The proofs of each entry that a node applies are checked by `workers`
-/// threads. A thread passes `gate` before it applies an entry and before it checks a proof.
+/// node, and its weather. A thread passes `gate` before it applies an entry and before it checks a
+/// proof.
 ///
 /// Errors: `Memory`, if an allocation fails or a thread cannot be started; the threads that were
 /// started have then ended.
@@ -62,22 +72,21 @@ pub fn start<
 >(
     rt: &R,
     alloc: Global,
-    weights: Weights,
-    workers: PoolSize,
+    setup: &ClusterSetup,
     gate: Arc<G>,
     weathers: Vec<W>,
     keeps: Vec<K>,
 ) -> Result<Cluster<G, K>, StepFault>
-    requires weathers { length weathers.items ≡ length weights }
-    requires keeps { length keeps.items ≡ length weights }
+    requires weathers { length weathers.items ≡ length setup.now.weights }
+    requires keeps { length keeps.items ≡ length setup.now.weights }
     requires new { AllByRecursion (λ keep. K.kept keep ≡ new_kept) keeps.items }
-    ensures nodes { IfOk result (λ cluster. cluster ≡ length weights) }
+    ensures nodes { IfOk result (λ cluster. cluster ≡ length setup.now.weights) }
     ensures only_memory { IsOkUnless result Memory }
 {
-    let (shared, receivers) = share(alloc, weights, workers, gate, keeps)?;
+    let (shared, receivers) = share(alloc, setup, gate, keeps)?;
     let mut cluster = Cluster {
         alloc,
-        node_count: weights.count(),
+        node_count: setup.weights.count(),
         shared,
         threads: Vec::new(alloc),
     };
@@ -93,22 +102,21 @@ pub fn start<
 /// Creates the locks that threads and desks share, and the receiving ends of the nodes' channels.
 fn share<G: Gate + Drop, K: Keep<Carried>>(
     alloc: Global,
-    weights: Weights,
-    workers: PoolSize,
+    setup: &ClusterSetup,
     gate: Arc<G>,
     keeps: Vec<K>,
 ) -> Result<(Arc<SharedNodes<G, K>>, Vec<Receiver<u64>>), StepFault>
-    requires keeps { length keeps.items ≡ length weights }
+    requires keeps { length keeps.items ≡ length setup.now.weights }
     requires new { AllByRecursion (λ keep. K.kept keep ≡ new_kept) keeps.items }
-    ensures cells { IfOk result (λ parts. vec_len (arc_value parts.0).cells ≡ length weights) }
+    ensures cells { IfOk result (λ parts. vec_len (arc_value parts.0).cells ≡ length setup.now.weights) }
     ensures only_memory { IsOkUnless result Memory }
 {
-    let (switch, cells) = cells(alloc, weights, keeps)?;
+    let (switch, cells) = cells(alloc, setup.weights, setup.event_limit, keeps)?;
     let cells = locks(alloc, cells)?;
-    let (senders, receivers) = channels(alloc, weights.count())?;
+    let (senders, receivers) = channels(alloc, setup.weights.count())?;
     let shared_nodes = SharedNodes {
         alloc,
-        workers,
+        workers: setup.workers,
         gate,
         switch: Mutex::new(SharedSwitch::new(switch)),
         cells,

@@ -1,30 +1,19 @@
-//! The calls of a desk that ask for the state of a node, for the history, or any question about a
-//! cell.
-ghost use Rattle.std.specs.Prelude.{◌≡◌, ◌≤◌, ◌<◌, ◌⊎◌, Err, IfErr, IfOk, IsOkUnless};
+//! The calls of a desk that ask for the state of a node or of all nodes, for the history, or any
+//! question about a cell.
+ghost use Rattle.std.specs.Prelude.{◌≡◌, ◌≤◌, ◌<◌, ◌⊎◌, Err, IfErr, IfOk, IsOkUnless, vec_len};
 ghost use Rattle.std.specs.Fn.{FnOnceReturnsAt};
 ghost use Rattle.net.specs.declared.fault.StepFault.TheVariants.{Apart, Memory, NoNode};
 ghost use Rattle.cluster.specs.Cell.{Cell};
-ghost use Rattle.nodes.specs.Questions.{IsOfNode, IsHistory, IsNodeStatus};
+ghost use Rattle.nodes.specs.Questions.{AreNodeStatuses, IsHealth, IsHistory, IsNodeStatus, IsOfNode};
 
 use crate::desk::Desk;
 use cluster::{NodeCell, ask_on};
 use net::{Event, StepFault};
 use std::alloc::{AllocError, Global};
 use std::sync::Wait;
-use synod::{Keep, NodeState, Value};
+use synod::{Keep, Value};
 use verify_pool::Gate;
-use world::Carried;
-
-/// The state of a node, and how many entries its cell applied.
-#[derive(Clone, Copy, PartialEq, Eq)]
-pub struct NodeStatus {
-    /// The state that the node reports.
-    pub state: NodeState,
-    /// The number of entries of its log that were applied.
-    pub applied: u32,
-    /// Whether it is down because a call of its keep failed.
-    pub is_down: bool,
-}
+use world::{Carried, Health, NodeStatus};
 
 impl<G: Gate, K: Keep<Carried>> Desk<G, K> {
     /// Calls `question` on node `k`'s cell, and returns the answer. The node's lock is held
@@ -70,6 +59,42 @@ impl<G: Gate, K: Keep<Carried>> Desk<G, K> {
             applied,
             is_down: shared_switch.switch.is_down(Some(k)),
         })
+    }
+
+    /// Returns the state of each node and of its cell, and how many events are taken. The locks are
+    /// taken node by node, as by `node_status`.
+    ///
+    /// Errors: `Apart` if a cell is not that of its node; else `Memory`.
+    pub fn health<R: Wait>(&self, rt: &R) -> Result<Health, StepFault>
+        ensures health { IfOk result (IsHealth self.now) }
+    {
+        let nodes = self.node_statuses(rt)?;
+        let shared_switch = self.shared.switch.lock(rt);
+        Ok(Health {
+            nodes,
+            events: shared_switch.switch.history().len() as u64,
+            event_limit: shared_switch.switch.event_limit(),
+        })
+    }
+
+    /// Returns the state of each node and of its cell.
+    #[tactic(auto, using(crate::proofs::QuestionsLemmas::more_node_statuses))]
+    fn node_statuses<R: Wait>(&self, rt: &R) -> Result<Vec<NodeStatus>, StepFault>
+        ensures count { IfOk result (λ statuses. vec_len statuses ≡ self.now) }
+        ensures statuses { IfOk result (λ statuses. AreNodeStatuses 0 statuses.items) }
+    {
+        let mut statuses = Vec::new(self.shared.alloc);
+        // A cluster has at most 9 nodes, so the number of each is an u8.
+        for index in 0..self.shared.cells.len() {
+            let Ok(k) = u8::try_from(index) else {
+                return Err(StepFault::NoNode);
+            };
+            let status = self.node_status(rt, k)?;
+            let Ok(()) = statuses.push(status) else {
+                return Err(StepFault::Memory);
+            };
+        }
+        Ok(statuses)
     }
 
     /// Returns the events of the history so far. The switch is locked while they are copied.

@@ -1,6 +1,5 @@
 //! The report of a cluster: the number of events of each node.
 ghost use Rattle.std.specs.Prelude.{◌≡◌, ◌+◌, ◌<◌, ◌≤◌, replicate, sum};
-ghost use Rattle.net.specs.declared.event.TheConstants.{MAX_EVENTS};
 ghost use Rattle.nodes.specs.Report.{IsReport, with_one_more_at};
 
 use cluster::Switch;
@@ -37,7 +36,7 @@ pub(crate) fn count_events<K: Keep<Carried>>(
 
 /// Adds one to the count of a node. Returns 1, or 0 if there is no such node.
 fn add_one(counts: &mut Vec<u64>, node: Option<u8>) -> u64
-    requires { sum counts.old.items < MAX_EVENTS }
+    requires { sum counts.old.items < u64.MAX }
     ensures counts { counts.new.items ≡ with_one_more_at 0 node counts.old.items }
     ensures total { sum counts.new.items ≡ sum counts.old.items + result }
     ensures few { result ≤ 1 }

@@ -5,7 +5,7 @@ ghost use Rattle.net.specs.declared.fault.StepFault.TheVariants.{EventsSpent, No
 ghost use Rattle.nodes.specs.Desk.{IsResultOf, DeliversAll};
 
 use cluster::{NodeCell, Switch, deliver_on, restart_on};
-use net::{Event, MAX_EVENTS, StepFault};
+use net::{Event, StepFault};
 use std::alloc::Global;
 use std::mem;
 use synod::Keep;
@@ -93,7 +93,7 @@ impl<K: Keep<Carried>> SharedSwitch<K> {
     pub fn missing_node_fault(&self) -> StepFault
         ensures { (result ≡ EventsSpent) ⊎ (result ≡ NoNode) }
     {
-        if self.switch.history().len() as u64 >= MAX_EVENTS {
+        if self.switch.history().len() as u64 >= self.switch.event_limit() {
             StepFault::EventsSpent
         } else {
             StepFault::NoNode

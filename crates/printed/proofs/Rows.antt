@@ -1,5 +1,9 @@
--- The lines of the outline, and the lines on the rules, for small texts.
-use Rattle.printed.proofs.Words.{◌≡◌, Some, None, [], ◌∷◌, codes, decimal, refl, arith, decimal_digit, Open, Prove, G10, outline_line, rules_line, numbered_line}
+-- The lines of the outline, and the lines on the rules, for small texts; the lines on nodes.
+use Rattle.std.specs.Prelude.{ℕ, Bool, false}
+use Rattle.synod.specs.declared.proposer.Role.TheVariants.{Leading}
+use Rattle.world.specs.declared.health.NodeStatus.{NodeStatus}
+use Rattle.printed.specs.Healths.{node_line, events_line}
+use Rattle.printed.proofs.Words.{◌≡◌, Some, None, [], ◌∷◌, true, codes, decimal, refl, arith, decimal_digit, Open, Prove, G10, outline_line, rules_line, numbered_line}
 
 -- the digits of 1
 one : decimal 1 ≡ codes "1"
@@ -28,3 +32,36 @@ open_block = rw three refl
 -- a text that is no list of statements from token 3 on
 token : numbered_line (codes "refused C3 token ") 3 ≡ codes "refused C3 token 3\n"
 token = rw three refl
+
+-- the digits of 0, 5 and 7
+zero : decimal 0 ≡ codes "0"
+zero = decimal_digit 0 (omega arith)
+
+five : decimal 5 ≡ codes "5"
+five = decimal_digit 5 (omega arith)
+
+seven : decimal 7 ≡ codes "7"
+seven = decimal_digit 7 (omega arith)
+
+-- a node that leads at 3.0, has promised a ballot of this round, and learned five entries of seven
+status : ℕ → Bool → NodeStatus
+status promised down = record {
+  state = record { role = Leading (record { round = 3; node = 0 }) 7; promise = record { round = promised; node = 0 }; log_len = 5; top = 7; waiting = 0 };
+  applied = 5;
+  is_down = down;
+}
+
+-- a node that leads
+leading_node : node_line 0 (status 3 false) ≡ codes "0 up leads 3.0 learned 5 of 7 applied 5\n"
+unfolding status
+leading_node = rw (zero, three, five, seven) refl
+
+-- a node that has promised a higher ballot than that at which it leads does not lead; one that is
+-- down tells the rest as any other
+outbid_node : node_line 1 (status 5 true) ≡ codes "1 down follows learned 5 of 7 applied 5\n"
+unfolding status
+outbid_node = rw (one, five, seven) refl
+
+-- the line of the events
+events : events_line 3 7 ≡ codes "events 3 of 7\n"
+events = rw (three, seven) refl

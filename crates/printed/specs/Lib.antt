@@ -3,3 +3,4 @@ pub mod Trees
 pub mod Outline
 pub mod Counted
 pub mod States
+pub mod Healths

@@ -11,13 +11,14 @@
 //! a database (`scope::Rule`).
 //!
 //! Reading order: `verdict_text`, `packets`, `answers` (logs, lists and exports), `counted`,
-//! `states`, `tree_text`; `broken_rules` (the first statement of a database that breaks a rule) and
-//! `outline`.
+//! `states`, `healths`, `tree_text`; `broken_rules` (the first statement of a database that breaks a
+//! rule) and `outline`.
 #![tactic(auto)]
 
 mod answers;
 mod broken_rules;
 mod counted;
+mod healths;
 mod outline;
 mod packets;
 mod states;
@@ -30,6 +31,7 @@ pub use answers::{
 };
 pub use broken_rules::first_broken_rule;
 pub use counted::{push_carried_log, push_counted_lines};
+pub use healths::push_health;
 pub use outline::outline_text;
 pub use packets::push_packet;
 pub use states::push_state;

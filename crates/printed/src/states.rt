@@ -60,7 +60,7 @@ fn push_role(text: &mut Vec<u8>, role: Role) -> Result<(), AllocError>
 }
 
 /// Appends a name and a number.
-fn push_count(text: &mut Vec<u8>, name: &[u8], number: u64) -> Result<(), AllocError>
+pub(crate) fn push_count(text: &mut Vec<u8>, name: &[u8], number: u64) -> Result<(), AllocError>
     ensures { OnOk result (text.new.items ≡ text.old.items ++ count_text name.now number) }
 {
     text.extend_from_slice(name)?;

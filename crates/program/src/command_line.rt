@@ -59,10 +59,15 @@ fn answer<
         Request::Outline { name } => print_outline(rt.alloc(), name, input, output, stderr),
         Request::Ask(question) => answer_question(rt, &question, input, output, stderr),
         Request::Pages(request) => write_pages(rt, request, input, output, stderr, folder),
-        Request::Play { weights } => play(rt.alloc(), weights, input, output),
-        Request::Picture { weights, steps } => {
-            print_picture(rt.alloc(), weights, steps, input, output)
-        }
+        Request::Play {
+            weights,
+            event_limit,
+        } => play(rt.alloc(), weights, event_limit, input, output),
+        Request::Picture {
+            weights,
+            event_limit,
+            steps,
+        } => print_picture(rt.alloc(), weights, event_limit, steps, input, output),
         Request::Serve(options) => serve(rt, options, input, output),
     }
 }

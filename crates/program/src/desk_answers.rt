@@ -4,10 +4,12 @@ ghost use Rattle.std.specs.Prelude.{◌≡◌, ◌++◌, ◌≤◌, ℕ, List, E
 ghost use Rattle.cluster.specs.Cell.{Cell};
 ghost use Rattle.net.specs.declared.event.Event.{Event as TakenEvent};
 ghost use Rattle.world.specs.declared.carried.Carried.{Carried as TakenEntry};
-ghost use Rattle.nodes.specs.Questions.{IsOfNode, IsHistory, IsNodeStatus};
-ghost use Rattle.nodes.specs.declared.questions.NodeStatus.{NodeStatus};
+ghost use Rattle.nodes.specs.Questions.{IsHealth, IsHistory, IsNodeStatus, IsOfNode};
+ghost use Rattle.world.specs.declared.health.Health.{Health};
+ghost use Rattle.world.specs.declared.health.NodeStatus.{NodeStatus};
 ghost use Rattle.printed.specs.Counted.{carried_log_text};
 ghost use Rattle.printed.specs.Printed.{export_text};
+ghost use Rattle.printed.specs.Healths.{health_text};
 ghost use Rattle.printed.specs.States.{state_text};
 ghost use Rattle.event_lines.specs.EventLines.{counted_event_lines};
 ghost use Rattle.program.specs.Answers.{IsLabelAnswer};
@@ -19,7 +21,7 @@ use crate::why::{Decision, decision_of, push_why};
 use cluster::NodeCell;
 use commands::{NodeEntryId, NodePair, NodeQuestion};
 use event_lines::push_events;
-use printed::{push_carried_log, push_export, push_state};
+use printed::{push_carried_log, push_export, push_health, push_state};
 use std::alloc::{AllocError, Global};
 use std::sync::Wait;
 use world::Carried;
@@ -63,6 +65,15 @@ impl<R: Wait> AnsweringDesk<'_, R> {
     {
         let status = self.desk.node_status(self.rt, node)?;
         Ok(push_state(text, &status.state, status.applied, status.is_down)?)
+    }
+
+    /// Appends the state of each node, and how many events are taken.
+    pub fn push_health(&self, text: &mut Vec<u8>) -> Result<(), Fault>
+        ensures { OnOk result ((health : Health) × IsHealth self.now.desk.now health
+            × (text.new.items ≡ text.old.items ++ health_text health)) }
+    {
+        let health = self.desk.health(self.rt)?;
+        Ok(push_health(text, &health)?)
     }
 
     /// Appends the answer to a question about a label of a node's library.

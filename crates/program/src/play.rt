@@ -19,15 +19,17 @@ use std::vec::IntoIter;
 use synod::Weights;
 use world::World;
 
-/// Reads a script, prints the answers to its lines, and returns the exit status.
+/// Reads a script, prints the answers to its lines, and returns the exit status. The nodes take at
+/// most `event_limit` events.
 pub fn play<I: Read, O: Write>(
     alloc: Global,
     weights: Weights,
+    event_limit: u64,
     input: &mut I,
     output: &mut O,
 ) -> Result<u8, Fault> {
     let mut lines = read_script(alloc, input)?.into_iter();
-    let mut world = World::new(alloc, weights)?;
+    let mut world = World::new(alloc, weights, event_limit)?;
     answer_lines::<PlayLine, World, IntoIter<PlayLine>, O>(alloc, &mut world, &mut lines, output)
 }
 

@@ -10,18 +10,20 @@ use std::io::{Read, Write};
 use synod::Weights;
 
 /// Reads a script, takes its steps, prints the picture of some of them, and returns the exit
-/// status. A line that is refused leaves no mark, and questions are not answered.
+/// status. The nodes take at most `event_limit` events. A line that is refused leaves no mark, and
+/// questions are not answered.
 ///
 /// Errors: `Input`; `BadLine`; `LongRun`; `Memory`, before anything is printed; `Output`.
 pub fn print_picture<I: Read, O: Write>(
     alloc: Global,
     weights: Weights,
+    event_limit: u64,
     steps: PicturedSteps,
     input: &mut I,
     output: &mut O,
 ) -> Result<u8, Fault> {
     let lines = read_script::<PlayLine, I>(alloc, input)?;
-    let mut run = Run::new(alloc, weights)?;
+    let mut run = Run::new(alloc, weights, event_limit)?;
     print_run(alloc, weights, &mut run, lines, range_of(steps), output)
 }
 

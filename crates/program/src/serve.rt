@@ -60,6 +60,7 @@ fn serve_lines<
         rt,
         rt.alloc(),
         options.weights,
+        options.event_limit,
         options.workers,
         options.weather_seed,
     )?;
@@ -127,6 +128,7 @@ fn answer_serve_line<R: Wait>(
             let outcome = add_until_decided(answering.rt, answering.desk, &offered)?;
             Ok(push_verdict_line(text, outcome, b"unknown")?)
         }
+        ServeLine::Health => answering.push_health(text),
     }
 }
 

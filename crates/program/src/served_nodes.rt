@@ -8,7 +8,7 @@ use crate::served_weather::weathers;
 use cluster::MemoryKeep;
 use commands::WorkerCount;
 use net::StepFault;
-use nodes::{Cluster, Desk, start};
+use nodes::{Cluster, ClusterSetup, Desk, start};
 use std::alloc::{AllocError, Global};
 use std::sync::{Arc, Wait};
 use std::thread::Threads;
@@ -27,8 +27,9 @@ pub type Nodes = Cluster<OpenGate, MemoryKeep<Carried>>;
 /// says that there is no such node.
 pub type NodesDesk = Desk<OpenGate, MemoryKeep<Carried>>;
 
-/// Starts a node for each weight. `seed` is that from which the weather of each node is
-/// drawn; without a seed the weather is clear. The gate lets each thread pass at once.
+/// Starts a node for each weight. They take at most `event_limit` events. `seed` is that from which
+/// the weather of each node is drawn; without a seed the weather is clear. The gate lets each thread
+/// pass at once.
 ///
 /// Errors: `Memory` if an allocation fails or a thread cannot be started; then no thread is left
 /// running.
@@ -36,6 +37,7 @@ pub fn start_nodes<R: Threads + Wait + Copy + Send + Sync + Drop + 'static>(
     rt: &R,
     alloc: Global,
     weights: Weights,
+    event_limit: u64,
     workers: WorkerCount,
     seed: Option<u64>,
 ) -> Result<Nodes, StepFault>
@@ -48,15 +50,12 @@ pub fn start_nodes<R: Threads + Wait + Copy + Send + Sync + Drop + 'static>(
     };
     let weathers = weathers(alloc, count, seed)?;
     let keeps = keeps(alloc, count)?;
-    start(
-        rt,
-        alloc,
+    let setup = ClusterSetup {
         weights,
-        PoolSize::new(workers.count),
-        gate,
-        weathers,
-        keeps,
-    )
+        event_limit,
+        workers: PoolSize::new(workers.count),
+    };
+    start(rt, alloc, &setup, gate, weathers, keeps)
 }
 
 /// Returns `count` keeps of new nodes.

@@ -4,8 +4,8 @@ use Rattle.world.specs.WorldView.{after_event}
 use Rattle.run_pictures.proofs.StepsLemmas.{next_is, with_event_step, with_application_step}
 
 -- a new world has no steps
-pub new_recorded : (world : WorldView) (weights : List ℕ) → world ≡ new_world weights → IsRecorded world [] 0
-new_recorded world weights is = record {
+pub new_recorded : (world : WorldView) (weights : List ℕ) (limit : ℕ) → world ≡ new_world weights limit → IsRecorded world [] 0
+new_recorded world weights limit is = record {
   events = ap (λ (r : WorldView). steps_of r.history) (sym is);
   count = ap (λ (r : WorldView). length (packets_of r)) (sym is);
 }

@@ -78,7 +78,7 @@ steps_from index r (e ∷ es) = step_of index r e (after_one_more r e) ∷ steps
 
 -- the steps of a history, in order, one for each event
 abbrev pub steps_of : History Carried → List Step
-steps_of history = steps_from 0 (after carried_size history.weights []) history.events
+steps_of history = steps_from 0 (after carried_size history.weights history.event_limit []) history.events
 
 -- the act is that of an event, not the application of an entry
 abbrev pub is_event_act : Act → Bool

@@ -44,15 +44,15 @@ impl Run {
     ghost use Rattle.run_pictures.specs.RunView.{RunView, packets_of};
     ghost use Rattle.run_pictures.specs.Marks.{marks_of, shown_of};
 
-    /// Makes a run of new nodes, without steps.
+    /// Makes a run of new nodes, without steps. The nodes take at most `event_limit` events.
     #[tactic(auto, using(crate::proofs::RunLemmas::new_recorded))]
-    pub fn new(alloc: Global, weights: Weights) -> Result<Run, StepFault>
+    pub fn new(alloc: Global, weights: Weights, event_limit: u64) -> Result<Run, StepFault>
         ensures new { IfOk result
-            (λ run. run ≡ record { world = new_world weights; steps = [] }) }
+            (λ run. run ≡ record { world = new_world weights event_limit; steps = [] }) }
         ensures only_memory { IsOkUnless result Memory }
     {
         Ok(Run {
-            world: World::new(alloc, weights)?,
+            world: World::new(alloc, weights, event_limit)?,
             steps: Vec::new(alloc),
             posted: 0,
         })

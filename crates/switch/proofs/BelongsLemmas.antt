@@ -1,5 +1,5 @@
 -- A prefix of a node's log remains one after any event other than a restart of that node.
-use Rattle.switch.proofs.Words.{◌≡◌, ◌≢◌, ℕ, ◌<◌, ◌==◌, Bool, true, false, List, [], ◌∷◌, ◌++◌, length, slice_get, inl, inr, Option, Some, None, Result, Ok, Err, refl, ap, sym, ◌∙◌, subst, arith, nat_lt, ◌+◌, IsSome, OnErr, option_map, nat_tests, length-set, Packet, Change, Refusal, Node, StepResult, offer_result, begin_result, on_packet, restarted, MAX_EVENTS, Event, Offer, Begin, Deliver, Restart, StepFault, World, at_node, delivered, event_result_without_limit, event_result, log, log_after, events_result, start, IsAfter, IsPrefixOf, node_of, change_of, IfTaken, if_taken, spent_or, events_result-append, after-push, log_grows, then_begins, Status, up, down, StoreView, SwitchView, world_of, with_store, ViewFitsNode, AreStores, is_down, is_down_view, is_down_at, pending_on_failure, change_of_pending, pending_events, FailsAt, IsOutcomeAt, IsEffectUnlessDown, IsRecoveryOutcome, IsEffectOfRecovery, IsEffectAtDownNode, IsEffect, IsLogPrefix, KeepsPrefixes, EventKeepsPrefixes, append-nil}
+use Rattle.switch.proofs.Words.{◌≡◌, ◌≢◌, ℕ, ◌<◌, ◌==◌, Bool, true, false, List, [], ◌∷◌, ◌++◌, length, slice_get, inl, inr, Option, Some, None, Result, Ok, Err, refl, ap, sym, ◌∙◌, subst, arith, nat_lt, ◌+◌, IsSome, OnErr, option_map, nat_tests, length-set, Packet, Change, Refusal, Node, StepResult, offer_result, begin_result, on_packet, restarted, Event, Offer, Begin, Deliver, Restart, StepFault, World, at_node, delivered, event_result_without_limit, event_result, log, log_after, events_result, start, IsAfter, IsPrefixOf, node_of, change_of, IfTaken, if_taken, spent_or, events_result-append, after-push, log_grows, then_begins, Status, up, down, StoreView, SwitchView, world_of, with_store, ViewFitsNode, AreStores, is_down, is_down_view, is_down_at, pending_on_failure, change_of_pending, pending_events, FailsAt, IsOutcomeAt, IsEffectUnlessDown, IsRecoveryOutcome, IsEffectOfRecovery, IsEffectAtDownNode, IsEffect, IsLogPrefix, KeepsPrefixes, EventKeepsPrefixes, append-nil}
 use Rattle.switch.specs.Switch.{with_event}
 
 -- The node of an event that is taken exists.
@@ -32,7 +32,7 @@ module _ {V : Type 0} (size : V → ℕ) (w : World V) where
 
   -- the node of an event that happens exists
   pub node_there : (e : Event V) (x : World V) → event_result size w e ≡ Ok x → IsOfNode w e
-  node_there e x happened = if_taken (λ (y : World V). IsOfNode w e) (event_result size w e) x happened (spent_or (λ (y : World V). IsOfNode w e) (event_result_without_limit size w e) (w.event_count == MAX_EVENTS) (there_happens_at e))
+  node_there e x happened = if_taken (λ (y : World V). IsOfNode w e) (event_result size w e) x happened (spent_or (λ (y : World V). IsOfNode w e) (event_result_without_limit size w e) (w.event_count == w.event_limit) (there_happens_at e))
 
 -- the log of node j before an event other than its restart is a prefix of the log after it
 log_goes_on : {V : Type 0} (size : V → ℕ) (w : World V) (e : Event V) (x : World V) → event_result size w e ≡ Ok x → (j : ℕ) → e ≢ Restart j → IsPrefixOf (log w j) (log x j)
@@ -69,7 +69,7 @@ module _ {V : Type 0} (size : V → ℕ) (old : SwitchView V) where
         → (j : ℕ) (entries : List (Option V)) → e ≢ Restart j → IsLogPrefix size old j entries → IsLogPrefix size new j entries
     taken_stays new k view change e x happened is j entries other h =
         longer_stays new x
-        (ap (λ (s : SwitchView V). world_of size s) is ∙ after-push size old.weights old.history w e was ∙ happened)
+        (ap (λ (s : SwitchView V). world_of size s) is ∙ after-push size old.weights old.event_limit old.history w e was ∙ happened)
         (ap (λ (s : SwitchView V). length s.stores) is ∙ length-set old.stores k _)
         j entries (log_goes_on size w e x happened j other) h
 
@@ -90,15 +90,15 @@ on_err (Ok a) p = tt
 on_err (Err e) p = p
 
 -- the world before the last of the events
-record Before {V : Type 0} (size : V → ℕ) (ws : List ℕ) (es : List (Event V)) (e : Event V) (x : World V) : Type 0 where
+record Before {V : Type 0} (size : V → ℕ) (ws : List ℕ) (limit : ℕ) (es : List (Event V)) (e : Event V) (x : World V) : Type 0 where
   mid : World V
-  is_after : IsAfter size ws es mid
+  is_after : IsAfter size ws limit es mid
   happened : event_result size mid e ≡ Ok x
 
 -- a history that ends in an event has a world before it, in which the event happens
-before : {V : Type 0} (size : V → ℕ) (ws : List ℕ) (es : List (Event V)) (e : Event V) (x : World V) → IsAfter size ws (es ++ e ∷ []) x → Before size ws es e x
-before {V} size ws es e x is = from (events_result size es (Ok (start ws))) refl (sym (events_result-append size es (e ∷ []) (Ok (start ws))) ∙ is) where
-  from : (r : Result (World V) StepFault) → events_result size es (Ok (start ws)) ≡ r → events_result size (e ∷ []) r ≡ Ok x → Before size ws es e x
+before : {V : Type 0} (size : V → ℕ) (ws : List ℕ) (limit : ℕ) (es : List (Event V)) (e : Event V) (x : World V) → IsAfter size ws limit (es ++ e ∷ []) x → Before size ws limit es e x
+before {V} size ws limit es e x is = from (events_result size es (Ok (start ws limit))) refl (sym (events_result-append size es (e ∷ []) (Ok (start ws limit))) ∙ is) where
+  from : (r : Result (World V) StepFault) → events_result size es (Ok (start ws limit)) ≡ r → events_result size (e ∷ []) r ≡ Ok x → Before size ws limit es e x
   from (Ok m) at last = record { mid = m; is_after = at; happened = last }
   from (Err fault) at last = let no : Err fault ≡ Ok x = last in cc
 
@@ -146,13 +146,13 @@ module _ {V : Type 0} (size : V → ℕ) (old : SwitchView V) (w : World V) (was
 
   -- if the event that node j owes is taken, the log of each other node is a prefix of the one after
   -- it
-  owed_goes_on : (j : ℕ) (e : Option (Event V)) → ((ev : Event V) → e ≡ Some ev → node_of w ev ≡ Some j) → (m : World V) → IsAfter size old.weights (old.history ++ pending_events e) m → (k : ℕ) → k ≢ j → IsPrefixOf (log w k) (log m k)
+  owed_goes_on : (j : ℕ) (e : Option (Event V)) → ((ev : Event V) → e ≡ Some ev → node_of w ev ≡ Some j) → (m : World V) → IsAfter size old.weights old.event_limit (old.history ++ pending_events e) m → (k : ℕ) → k ≢ j → IsPrefixOf (log w k) (log m k)
   owed_goes_on j None pending m is k other =
-      let both : Ok w ≡ Ok m = sym was ∙ ap (λ (es : List (Event V)). world_of size (record { weights = old.weights; history = es; stores = old.stores })) (sym (append-nil old.history)) ∙ is in
+      let both : Ok w ≡ Ok m = sym was ∙ ap (λ (es : List (Event V)). world_of size (record { weights = old.weights; event_limit = old.event_limit; history = es; stores = old.stores })) (sym (append-nil old.history)) ∙ is in
       let same : w ≡ m = cc in
       ([], append-nil (log w k) ∙ ap (λ (x : World V). log x k) same)
   owed_goes_on j (Some ev) pending m is k other =
-      let happened : event_result size w ev ≡ Ok m = sym (after-push size old.weights old.history w ev was) ∙ is in
+      let happened : event_result size w ev ≡ Ok m = sym (after-push size old.weights old.event_limit old.history w ev was) ∙ is in
       let not : ev ≢ Restart k = λ same. (let both : Some j ≡ Some k = sym (pending ev refl) ∙ ap (λ (e : Event V). node_of w e) same in let number : j ≡ k = cc in other (sym number)) in
       log_goes_on size w ev m happened k not
 
@@ -162,7 +162,7 @@ module _ {V : Type 0} (size : V → ℕ) (old : SwitchView V) (w : World V) (was
   recovered_logs j view e pending (Ok count) h = record {
     others = λ k entries other b.
         (let apart : k ≢ j = λ same. other (ap (λ (i : ℕ). let r : Event V = Restart i in r) (sym same)) in
-        let mid = before size old.weights (old.history ++ pending_events e) (Restart j) h.world h.is_after in
+        let mid = before size old.weights old.event_limit (old.history ++ pending_events e) (Restart j) h.world h.is_after in
         longer_stays size old w was new h.world (ap (λ (s : SwitchView V). world_of size s) h.rest ∙ h.is_after) counted k entries
         (then_begins (log w k) (log mid.mid k) (log h.world k) (owed_goes_on j e pending mid.mid mid.is_after k apart) (log_goes_on size mid.mid (Restart j) h.world mid.happened k other)) b);
     after_error = tt;
@@ -181,14 +181,14 @@ module _ {V : Type 0} (size : V → ℕ) (old : SwitchView V) (w : World V) (was
     down_logs (Begin k) result test effect = logs_same size old (Begin k) new result effect.1
     down_logs (Deliver number) result test effect = logs_same size old (Deliver number) new result effect.1
     down_logs (Restart j) result test effect = by_view (slice_get old.stores j) refl where
-      by_room : (view : StoreView V) (e : Option (Event V)) → ((ev : Event V) → e ≡ Some ev → node_of w ev ≡ Some j) → IsEffectOfRecovery size w old new j view e result → (t : Bool) → nat_lt MAX_EVENTS (length old.history + 2) ≡ t → EventKeepsPrefixes size (Restart j) old new result
+      by_room : (view : StoreView V) (e : Option (Event V)) → ((ev : Event V) → e ≡ Some ev → node_of w ev ≡ Some j) → IsEffectOfRecovery size w old new j view e result → (t : Bool) → nat_lt old.event_limit (length old.history + 2) ≡ t → EventKeepsPrefixes size (Restart j) old new result
       by_room view e own recovers true test = logs_same size old (Restart j) new result (recovers.spent (grind (arith, nat_tests))).1
       by_room view e own recovers false test = recovered_logs j view e own result (recovers.recovered (grind (arith, nat_tests)))
 
       by_standing : (view : StoreView V) → slice_get old.stores j ≡ Some view → (s : Status (Event V)) → view.status ≡ s → EventKeepsPrefixes size (Restart j) old new result
       by_standing view at up stands =
           let no : false ≡ true = sym (ap (λ (o : Option (StoreView V)). is_down_view o) at ∙ ap (λ (s : Status (Event V)). is_down s) stands) ∙ test in cc
-      by_standing view at (down e) stands = by_room view e (λ ev is. pending j view at ev (stands ∙ ap (λ (o : Option (Event V)). let s : Status (Event V) = down o in s) is)) (effect view at e stands) (nat_lt MAX_EVENTS (length old.history + 2)) refl
+      by_standing view at (down e) stands = by_room view e (λ ev is. pending j view at ev (stands ∙ ap (λ (o : Option (Event V)). let s : Status (Event V) = down o in s) is)) (effect view at e stands) (nat_lt old.event_limit (length old.history + 2)) refl
 
       by_view : (o : Option (StoreView V)) → slice_get old.stores j ≡ o → EventKeepsPrefixes size (Restart j) old new result
       by_view None none = let no : false ≡ true = sym (ap (λ (o : Option (StoreView V)). is_down_view o) none) ∙ test in cc

@@ -1,6 +1,6 @@
 -- The count of nodes, the dispatch of an event by its node, and a call in terms of the variables of
 -- its function.
-use Rattle.switch.proofs.Words.{◌≡◌, ℕ, ◌<◌, Bool, true, false, List, length, get_or, set, slice_get, Option, Some, Result, Ok, Err, refl, ap, sym, ◌∙◌, subst, arith, ForOk, slice_get_within, slice_get_read, Change, changed_by, kept_of, MAX_EVENTS, Event, Offer, Begin, Deliver, Restart, StepFault, Device, Down, World, packets_after, History, world_of_taken, node_of, StagedEvent, NetView, IsStaged, ChangesOnlyCapacity, IsTaken, change_in, count_shown, up, down, StoreState, Fails, pending_change, SwitchView, pending_event, IsPendingStaged, IsSwitch, world_of, is_down_at, pending_on_failure, IsEffectUnlessDown, IsEffectAtDownNode, IsEffect}
+use Rattle.switch.proofs.Words.{◌≡◌, ℕ, ◌<◌, Bool, true, false, List, length, get_or, set, slice_get, Option, Some, Result, Ok, Err, refl, ap, sym, ◌∙◌, subst, arith, ForOk, slice_get_within, slice_get_read, Change, changed_by, kept_of, Event, Offer, Begin, Deliver, Restart, StepFault, Device, Down, World, packets_after, History, world_of_taken, node_of, StagedEvent, NetView, IsStaged, ChangesOnlyCapacity, IsTaken, change_in, count_shown, up, down, StoreState, Fails, pending_change, SwitchView, pending_event, IsPendingStaged, IsSwitch, world_of, is_down_at, pending_on_failure, IsEffectUnlessDown, IsEffectAtDownNode, IsEffect}
 use Rattle.switch.proofs.StoresLemmas.{count_views}
 use Rattle.switch.proofs.SwitchLemmas.{switch_view, still_switch}
 use Rattle.switch.proofs.CallLemmas.{still_view, after_is, is_up_at, kept_up, failed, failed_acts, played, played_acts}
@@ -55,14 +55,17 @@ module _ {V : Type 0} (size : V → ℕ) (a b : NetView V) (only_capacity : Chan
   pub in_stores : k < length stores
   in_stores = let low = slice_get_within b.cores d1.at d.core d.at in let count = hb.count in omega (arith, low, count, is_at)
 
-  module _ (e : Event V) (is_e : d1.event ≡ e) (few : length a.history.events < MAX_EVENTS) (store : StoreState V) (is : store ≡ get_or stores k store) (up_now : ForOk (world_of size now) (λ x. is_down_at now.stores (node_of x e) ≡ false)) where
+  module _ (e : Event V) (is_e : d1.event ≡ e) (few : length a.history.events < a.history.event_limit) (store : StoreState V) (is : store ≡ get_or stores k store) (up_now : ForOk (world_of size now) (λ x. is_down_at now.stores (node_of x e) ≡ false)) where
     -- the store that was read is the one of the node at which the event is staged
     found : slice_get stores d1.at ≡ Some store
     found = ap (λ (i : ℕ). slice_get stores i) (sym is_at) ∙ slice_get_read stores (length stores) k store refl in_stores is
 
     -- the history is below the limit of events
-    low : length b.history.events < MAX_EVENTS
-    low = let same = ap (λ (t : History V). length t.events) only_capacity.history in omega (arith, same, few)
+    low : length b.history.events < b.history.event_limit
+    low =
+        let same = ap (λ (t : History V). length t.events) only_capacity.history in
+        let limit = ap (λ (t : History V). t.event_limit) only_capacity.history in
+        omega (arith, same, limit, few)
 
     -- if the node of the event is not down in the view, this store is up
     pub is_up : store.status ≡ up

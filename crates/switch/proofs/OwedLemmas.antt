@@ -1,8 +1,12 @@
 -- The event that a node owes while it is down: it can be taken, and then the net and the stores are
 -- a switch.
-use Rattle.switch.proofs.Words.{◌≡◌, ℕ, ◌+◌, ◌<◌, ◌≤◌, List, ◌++◌, length, set, slice_get, Option, Some, None, refl, ap, sym, ◌∙◌, subst, arith, changed_by, Node, kept_of, MAX_EVENTS, World, History, StagedEvent, NetView, HasSpareCapacity, step_of, Status, up, down, StoreState, pending_change, pending_posts, IsRecordOf, pending_event, IsPendingStaged, IsSwitch, CanCommitPending, CommitsPending, change_of_pending, pending_events, append-nil}
+use Rattle.switch.proofs.Words.{◌≡◌, ℕ, ◌+◌, ◌<◌, ◌≤◌, List, ◌++◌, length, set, slice_get, Option, Some, None, refl, ap, sym, ◌∙◌, subst, arith, changed_by, Node, kept_of, World, History, StagedEvent, NetView, ChangesOnlyCapacity, HasSpareCapacity, step_of, Status, up, down, StoreState, pending_change, pending_posts, IsRecordOf, pending_event, IsPendingStaged, IsSwitch, CanCommitPending, CommitsPending, change_of_pending, pending_events, append-nil}
 use Rattle.switch.proofs.KeepLemmas.{with_either}
 use Rattle.switch.proofs.SwitchLemmas.{other_store, node_is, committed, change_told, changes}
+
+-- if only rooms change, there is still room for two events
+pub room_still : {V : Type 0} (a b : NetView V) → ChangesOnlyCapacity a b → length a.history.events + 2 ≤ a.history.event_limit → length b.history.events + 2 ≤ b.history.event_limit
+room_still {V} a b only_capacity room = subst (λ (t : History V). length t.events + 2 ≤ t.event_limit) (sym only_capacity.history) room
 
 module _ {V : Type 0} (size : V → ℕ) (net : NetView V) (stores : List (StoreState V)) (h : IsSwitch size net stores) (k : ℕ) where
   abbrev w : World V
@@ -13,7 +17,7 @@ module _ {V : Type 0} (size : V → ℕ) (net : NetView V) (stores : List (Store
   owed_change None q = refl
   owed_change (Some staged) q = change_told size net stores h staged q.1
 
-  module _ (room : length net.history.events + 2 ≤ MAX_EVENTS) where
+  module _ (room : length net.history.events + 2 ≤ net.history.event_limit) where
     -- the pending event can be taken, if there is room for it and for the restart
     pub can_take : (o : Option (StagedEvent V)) → IsPendingStaged size net k (down o) → (more : ℕ) → HasSpareCapacity net (length (pending_posts o) + more) 2 → CanCommitPending size net o
     can_take None q more r = tt
@@ -23,12 +27,12 @@ module _ {V : Type 0} (size : V → ℕ) (net : NetView V) (stores : List (Store
       omega (arith, room),
     )
 
-  module _ (n : Node V) (store new : StoreState V) (node_k : slice_get w.nodes k ≡ Some n) (found : slice_get stores k ≡ Some store) (new_up : new.status ≡ up) (room : length net.history.events + 2 ≤ MAX_EVENTS) (m : NetView V) where
+  module _ (n : Node V) (store new : StoreState V) (node_k : slice_get w.nodes k ≡ Some n) (found : slice_get stores k ≡ Some store) (new_up : new.status ≡ up) (room : length net.history.events + 2 ≤ net.history.event_limit) (m : NetView V) where
     -- once the keep has made its change and the pending event is taken, the net and the stores are
     -- a switch, and the net has the event and its posts
     pub owed_taken : (p : Option (StagedEvent V)) → IsPendingStaged size net k (down p) → IsRecordOf n (down p) store.kept → new.kept ≡ changed_by store.kept (pending_change p) → CommitsPending net m p
         → (switch : IsSwitch size m (set stores k new)) × (m.history.weights ≡ net.history.weights) × (m.history.events ≡ net.history.events ++ pending_events (pending_event p)) × (m.packets ≡ net.packets ++ pending_posts p)
-        × (net.packet_capacity ≤ m.packet_capacity) × (net.event_capacity ≤ m.event_capacity)
+        × (net.packet_capacity ≤ m.packet_capacity) × (net.event_capacity ≤ m.event_capacity) × (m.history.event_limit ≡ net.history.event_limit)
     owed_taken None q f kept same =
         let base : IsSwitch size net (set stores k new) = other_store size net stores h k n store new node_k found record {
           fits = subst (λ (s : Status (StagedEvent V)). IsRecordOf n s new.kept) (sym new_up) (kept ∙ with_either (kept_of n) store.kept None f);
@@ -40,9 +44,10 @@ module _ {V : Type 0} (size : V → ℕ) (net : NetView V) (stores : List (Store
           ap (λ (x : NetView V). x.packets) same ∙ sym (append-nil net.packets),
           (let e = ap (λ (x : NetView V). x.packet_capacity) same in omega (arith, e)),
           (let e = ap (λ (x : NetView V). x.event_capacity) same in omega (arith, e)),
+          ap (λ (x : NetView V). x.history.event_limit) same,
         )
     owed_taken (Some staged) q f kept t =
-        let low : length net.history.events < MAX_EVENTS = omega (arith, room) in
+        let low : length net.history.events < net.history.event_limit = omega (arith, room) in
         let at_k : slice_get stores staged.at ≡ Some store = ap (λ (i : ℕ). slice_get stores i) q.0 ∙ found in
         let same_node : n ≡ q.1.core.node =
         (let both : Some n ≡ Some q.1.core.node = sym node_k ∙ ap (λ (i : ℕ). slice_get w.nodes i) (sym q.0) ∙ node_is size net stores h staged q.1 in cc) in
@@ -54,4 +59,5 @@ module _ {V : Type 0} (size : V → ℕ) (net : NetView V) (stores : List (Store
           t.packets,
           t.packet_capacity,
           t.event_capacity,
+          ap (λ (x : History V). x.event_limit) t.history,
         )

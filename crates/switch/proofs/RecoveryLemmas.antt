@@ -1,5 +1,5 @@
 -- The restart of a node that is down: the event that it owes is taken first.
-use Rattle.switch.proofs.Words.{◌≡◌, ℕ, ◌+◌, ◌<◌, ◌≤◌, true, List, [], ◌∷◌, ◌++◌, length, get_or, set, slice_get, inl, inr, Option, Some, None, Result, Ok, Err, refl, ap, sym, ◌∙◌, subst, arith, length-append, AllByRecursion, option_map, ForOk, length-set, slice_get_read, Packet, Ask, Change, IsPost, to_others, KeptPart, changed_by, Node, StepResult, kept_of, Core, reloaded, restarted, MAX_EVENTS, Event, Restart, StepFault, Memory, Device, World, packets_after, IsAfter, History, world_of_taken, kept_part, StagedWork, steps, restarts, StagedEvent, NetView, HasSpareCapacity, IsStaged, IsReadyAt, IsOfEvent, IsEventAt, HasResult, IsTaken, posts_of, step_of, with_loaded, with_record, at_set, set_twice, comes_restart, set_same, Status, up, down, StoreState, pending_of, pending_change, pending_posts, IsRecordOf, IsWithOrWithout, Fails, StoreView, SwitchView, pending_event, status_view, view_of, views_of, IsPendingStaged, StoreFitsNode, IsSwitch, CanCommitPending, CommitsPending, world_of, is_down_at, pending_events, with_store, IsRecoveryOutcome, IsEffectOfRecovery}
+use Rattle.switch.proofs.Words.{◌≡◌, ℕ, ◌+◌, ◌<◌, ◌≤◌, true, List, [], ◌∷◌, ◌++◌, length, get_or, set, slice_get, inl, inr, Option, Some, None, Result, Ok, Err, refl, ap, sym, ◌∙◌, subst, arith, length-append, AllByRecursion, option_map, ForOk, length-set, slice_get_read, Packet, Ask, Change, IsPost, to_others, KeptPart, changed_by, Node, StepResult, kept_of, Core, reloaded, restarted, Event, Restart, StepFault, Memory, Device, World, packets_after, IsAfter, History, world_of_taken, kept_part, StagedWork, steps, restarts, StagedEvent, NetView, HasSpareCapacity, IsStaged, IsReadyAt, IsOfEvent, IsEventAt, HasResult, IsTaken, posts_of, step_of, with_loaded, with_record, at_set, set_twice, comes_restart, set_same, Status, up, down, StoreState, pending_of, pending_change, pending_posts, IsRecordOf, IsWithOrWithout, Fails, StoreView, SwitchView, pending_event, status_view, view_of, views_of, IsPendingStaged, StoreFitsNode, IsSwitch, CanCommitPending, CommitsPending, world_of, is_down_at, pending_events, with_store, IsRecoveryOutcome, IsEffectOfRecovery}
 use Rattle.switch.proofs.KeepLemmas.{either_twice}
 use Rattle.switch.proofs.StoresLemmas.{views_of-set, view_at, item_at, down_at, few_staged}
 use Rattle.switch.proofs.SwitchLemmas.{switch_view, core_node, own_number, own_weights, other_store, at, node_is, committed}
@@ -10,7 +10,7 @@ use Rattle.switch.proofs.OwedLemmas.{owed_change, can_take, owed_taken}
 -- The switch before, with stores and net as they are when the keep is called.
 module _ {V : Type 0} (size : V → ℕ) (net : NetView V) (stores : List (StoreState V)) (h : IsSwitch size net stores) (now : SwitchView V) (seen : switch_view net stores ≡ now)
     (d1 : StagedEvent V) (d : IsStaged size net d1) (j : ℕ) (is_e : d1.event ≡ Restart j) (kind : IsOfEvent (Restart j) d1.work) (k : ℕ) (is_at : k ≡ d1.at) (store : StoreState V) (is : store ≡ get_or stores k store) (low_k : k < length stores)
-    (test : is_down_at now.stores (Some j) ≡ true) (room : length net.history.events + 2 ≤ MAX_EVENTS) where
+    (test : is_down_at now.stores (Some j) ≡ true) (room : length net.history.events + 2 ≤ net.history.event_limit) where
   abbrev w : World V
   w = h.world.world
 
@@ -78,7 +78,7 @@ module _ {V : Type 0} (size : V → ℕ) (net : NetView V) (stores : List (Store
     record {
       kept = store.kept;
       either = inl refl;
-      rest = same ∙ ap (λ (ps : List (StoreView V)). let s : SwitchView V = record { weights = net.history.weights; history = net.history.events; stores = ps } in s)
+      rest = same ∙ ap (λ (ps : List (StoreView V)). let s : SwitchView V = record { weights = net.history.weights; event_limit = net.history.event_limit; history = net.history.events; stores = ps } in s)
           (sym (set_same (views_of stores) j (view_of store) (ap (λ (i : ℕ). slice_get (views_of stores) i) is_j ∙ view_at stores k store found)));
     },
   ))
@@ -107,7 +107,7 @@ module _ {V : Type 0} (size : V → ℕ) (net : NetView V) (stores : List (Store
       record {
         kept = new.kept;
         either = subst (λ (c : Option (Change V)). IsWithOrWithout store.kept c new.kept) (owed_change size net stores h k o pending_staged) either;
-        rest = ap (λ (ps : List (StoreView V)). let s : SwitchView V = record { weights = net.history.weights; history = net.history.events; stores = ps } in s) (views_of-set stores k new)
+        rest = ap (λ (ps : List (StoreView V)). let s : SwitchView V = record { weights = net.history.weights; event_limit = net.history.event_limit; history = net.history.events; stores = ps } in s) (views_of-set stores k new)
             ∙ ap (λ (s : StoreState V). with_store old k (view_of s)) fails.rest
             ∙ ap (λ (i : ℕ). with_store old i record { kept = new.kept; failures = store.failures + 1; status = status_view store.status }) (sym is_j);
       },
@@ -135,7 +135,7 @@ module _ {V : Type 0} (size : V → ℕ) (net : NetView V) (stores : List (Store
     takes_o = subst (λ (p : Option (StagedEvent V)). CommitsPending net m p) (is_owed ∙ owed_is) takes
 
     abbrev mid : (switch : IsSwitch size m (set stores k new)) × (m.history.weights ≡ net.history.weights) × (m.history.events ≡ net.history.events ++ pending_events (pending_event o)) × (m.packets ≡ net.packets ++ pending_posts o)
-        × (net.packet_capacity ≤ m.packet_capacity) × (net.event_capacity ≤ m.event_capacity)
+        × (net.packet_capacity ≤ m.packet_capacity) × (net.event_capacity ≤ m.event_capacity) × (m.history.event_limit ≡ net.history.event_limit)
     mid = owed_taken size net stores h k d.core.node store new node_k found new_up room m o pending_staged fits new_kept_is takes_o
 
     abbrev hm : IsSwitch size m (set stores k new)
@@ -158,12 +158,13 @@ module _ {V : Type 0} (size : V → ℕ) (net : NetView V) (stores : List (Store
     kept_m = subst (λ (s : Status (StagedEvent V)). IsRecordOf core_m.0.node s new.kept) new_up (hm.each k core_m.0.node new node_m new_at).fits
 
     -- the history has room for the restart after the pending event
-    pub low_m : length m.history.events < MAX_EVENTS
+    pub low_m : length m.history.events < m.history.event_limit
     low_m =
         let count = ap (λ (es : List (Event V)). length es) mid.2 in
         let more = length-append net.history.events (pending_events (pending_event o)) in
         let one = few_staged (pending_event o) in
-        omega (arith, count, more, one, room)
+        let limit = mid.6 in
+        omega (arith, count, more, one, room, limit)
 
     -- the posts of the restart ask all other nodes for the first entry
     asks : (work : StagedWork V) → IsOfEvent (Restart j) work → IsReadyAt d.core work → posts_of work ≡ to_others k m.history.weights (Ask 0)
@@ -244,6 +245,7 @@ module _ {V : Type 0} (size : V → ℕ) (net : NetView V) (stores : List (Store
         recovered_acts count counted =
             let x = recovered.world.world in
             let weights : z.history.weights ≡ net.history.weights = ap (λ (y : History V). y.weights) t.history ∙ mid.1 in
+            let limit : z.history.event_limit ≡ net.history.event_limit = ap (λ (y : History V). y.event_limit) t.history ∙ mid.6 in
             let history : z.history.events ≡ net.history.events ++ pending_events (pending_event o) ++ Restart j ∷ [] =
             ap (λ (y : History V). y.events) t.history ∙ ap (λ (es : List (Event V)). es ++ d1.event ∷ []) mid.2 ∙ ap (λ (f : Event V). net.history.events ++ pending_events (pending_event o) ++ f ∷ []) is_e in
             let low_z : k < length z.cores = (let c = recovered.count in let l = length-set stores k new in let low = low_k in omega (arith, c, l, low)) in
@@ -252,11 +254,12 @@ module _ {V : Type 0} (size : V → ℕ) (net : NetView V) (stores : List (Store
             let fits_z : new.kept ≡ kept_of c.0.node = subst (λ (s : Status (StagedEvent V)). IsRecordOf c.0.node s new.kept) new_up (recovered.each k c.0.node new node_z new_at).fits in
             of_view (switch_view z (set stores k new)) (Ok count) record {
               world = x;
-              is_after = subst (λ (us : List ℕ). IsAfter size us (net.history.events ++ pending_events (pending_event o) ++ Restart j ∷ []) x) weights (subst (λ (es : List (Event V)). IsAfter size z.history.weights es x) history recovered.world.is_after);
+              is_after = subst (λ (us : List ℕ). IsAfter size us net.history.event_limit (net.history.events ++ pending_events (pending_event o) ++ Restart j ∷ []) x) weights
+                  (subst (λ (l : ℕ). IsAfter size z.history.weights l (net.history.events ++ pending_events (pending_event o) ++ Restart j ∷ []) x) limit (subst (λ (es : List (Event V)). IsAfter size z.history.weights z.history.event_limit es x) history recovered.world.is_after));
               counted = counted ∙ ap (λ (r : Result (World V) StepFault). length (packets_after r)) recovered.world.is_after;
               kept = new.kept;
               is_kept = ap (λ (i : ℕ). kept_part x i) is_j ∙ ap (λ (n : Option (Node V)). option_map kept_of n) node_z ∙ ap (λ (y : KeptPart V). let p : Option (KeptPart V) = Some y in p) (sym fits_z);
-              rest = view_is_same _ _ _ _ _ _ weights history
+              rest = view_is_same _ _ _ _ _ _ _ _ weights limit history
                   (views_of-set stores k new ∙ ap (λ (i : ℕ). set (views_of stores) i (view_of new)) (sym is_j)
                   ∙ ap (λ (i : ℕ). set (views_of stores) j (let p : StoreView V = record { kept = new.kept; failures = i; status = status_view new.status } in p)) (ap (λ (s : StoreState V). s.failures) repaired)
                   ∙ ap (λ (s : Status (StagedEvent V)). set (views_of stores) j (let p : StoreView V = record { kept = new.kept; failures = store.failures; status = status_view s } in p)) new_up);

@@ -9,7 +9,7 @@ pub use Rattle.net.proofs.KeptPartLemmas.{Happens, event_moves}
 pub use Rattle.net.proofs.LogsGrow.{log_grows}
 pub use Rattle.net.proofs.StagedTaken.{posts_same}
 pub use Rattle.net.proofs.StepsStaged.{still_more}
-pub use Rattle.net.proofs.HistoryLemmas.{after-push, count_shown, event_result-not_spent, length-nodes_of, makes, next_is, nodes_of-set, rooms_stay, set_same, taken_count}
+pub use Rattle.net.proofs.HistoryLemmas.{after-push, count_shown, event_result-not_spent, length-nodes_of, makes, next_is, nodes_of-set, rooms_stay, same_limit, set_same, taken_count}
 pub use Rattle.net.proofs.TwoMoments.{events_result-append, world_lasts}
 pub use Rattle.net.specs.Agree.{IsAfter, IsPrefixOf}
 pub use Rattle.net.specs.KeptPart.{node_of_event, change_of, kept_part, node_of}
@@ -18,7 +18,6 @@ pub use Rattle.net.specs.History.{AreOfWorld, History, nodes_of, with_event, wor
 pub use Rattle.net.specs.World.{World, after, events_result, at_node, delivered, event_result, event_result_without_limit, log, log_after, nodes_from, offers_of, packets_after, start, after_step}
 pub use Rattle.net.specs.declared.event.Event.{Event}
 pub use Rattle.net.specs.declared.event.Event.TheVariants.{Begin, Deliver, Offer, Restart}
-pub use Rattle.net.specs.declared.event.TheConstants.{MAX_EVENTS}
 pub use Rattle.net.specs.declared.fault.StepFault.{StepFault}
 pub use Rattle.net.specs.declared.fault.StepFault.TheVariants.{Device, Down, EventsSpent, Memory}
 pub use Rattle.slots.specs.FiniteMap.{put_at}

@@ -6,7 +6,7 @@
 -- the world after the history.
 use Rattle.std.specs.Prelude.{◌≡◌, ◌⊎◌, ◌+◌, ◌≤◌, ◌<◌, ℕ, Bool, true, false, List, [], ◌∷◌, ◌++◌, Option, Some, None, Result, Ok, Err, MatchResult, length, slice_get, slice_set}
 use Rattle.std.specs.Borrow.{Bor}
-use Rattle.switch.specs.Words.{Packet, Change, KeptPart, changed_by, new_kept, Node, kept_of, MAX_EVENTS, Event, Offer, Begin, Deliver, Restart, StepFault, Memory, Device, Down, EventsSpent, NoPacket, World, event_result, after, IsAfter, AreOfWorld, node_of, change_of, kept_part, StagedEvent, NetView, IsStaged, HasSpareCapacity, IsTaken, posts_of}
+use Rattle.switch.specs.Words.{Packet, Change, KeptPart, changed_by, new_kept, Node, kept_of, Event, Offer, Begin, Deliver, Restart, StepFault, Memory, Device, Down, EventsSpent, NoPacket, World, event_result, after, IsAfter, AreOfWorld, node_of, change_of, kept_part, StagedEvent, NetView, IsStaged, HasSpareCapacity, IsTaken, posts_of}
 use Rattle.switch.specs.NodeStore.{Status, up, down, StoreState, IsRecordOf, IsWithOrWithout}
 
 -- The switch as contracts see it.
@@ -20,6 +20,7 @@ pub record StoreView (V : Type 0) : Type 0 where
 
 pub record SwitchView (V : Type 0) : Type 0 where
   pub weights : List ℕ
+  pub event_limit : ℕ  -- the number of events that the switch takes
   pub history : List (Event V)
   pub stores : List (StoreView V)
 
@@ -72,7 +73,7 @@ pub record IsSwitch {V : Type 0} (size : V → ℕ) (net : NetView V) (stores : 
 
 -- the world after the history
 abbrev pub world_of : {V : Type 0} → (V → ℕ) → SwitchView V → Result (World V) StepFault
-world_of size switch = after size switch.weights switch.history
+world_of size switch = after size switch.weights switch.event_limit switch.history
 
 -- the result is the packet with this number, counted from 0 in the order of posting, or NoPacket if
 -- there is none
@@ -121,7 +122,7 @@ abbrev pub Refuses : {V : Type 0} → SwitchView V → SwitchView V → Result �
 Refuses old new result fault = (result ≡ Err fault) × (new ≡ old)
 
 abbrev pub with_store : {V : Type 0} → SwitchView V → ℕ → StoreView V → SwitchView V
-with_store old k view = record { weights = old.weights; history = old.history; stores = slice_set old.stores k view }
+with_store old k view = record { weights = old.weights; event_limit = old.event_limit; history = old.history; stores = slice_set old.stores k view }
 
 -- the keep has made the change, and the event is taken
 abbrev pub with_event : {V : Type 0} → SwitchView V → ℕ → StoreView V → Option (Change V) → Event V → SwitchView V
@@ -170,12 +171,13 @@ recovered_history old e k = old.history ++ pending_events e ++ Restart k ∷ []
 -- then the restart are taken
 pub record IsRecovered {V : Type 0} (size : V → ℕ) (old new : SwitchView V) (k : ℕ) (view : StoreView V) (e : Option (Event V)) (count : ℕ) : Type 0 where
   pub world : World V
-  pub is_after : IsAfter size old.weights (recovered_history old e k) world
+  pub is_after : IsAfter size old.weights old.event_limit (recovered_history old e k) world
   pub counted : count ≡ length world.packets
   pub kept : KeptPart V
   pub is_kept : kept_part world k ≡ Some kept
   pub rest : new ≡ record {
     weights = old.weights;
+    event_limit = old.event_limit;
     history = recovered_history old e k;
     stores = slice_set old.stores k record { kept = kept; failures = view.failures; status = up };
   }
@@ -194,8 +196,8 @@ IsRecoveryOutcome size w old new k view e (Err fault) =
 
 -- the effect of a restart at a node that is down; e is its pending event
 pub record IsEffectOfRecovery {V : Type 0} (size : V → ℕ) (w : World V) (old new : SwitchView V) (k : ℕ) (view : StoreView V) (e : Option (Event V)) (result : Result ℕ StepFault) : Type 0 where
-  pub spent : MAX_EVENTS < length old.history + 2 → Refuses old new result EventsSpent
-  pub recovered : length old.history + 2 ≤ MAX_EVENTS → IsRecoveryOutcome size w old new k view e result
+  pub spent : old.event_limit < length old.history + 2 → Refuses old new result EventsSpent
+  pub recovered : length old.history + 2 ≤ old.event_limit → IsRecoveryOutcome size w old new k view e result
 
 -- Events in general.
 
@@ -225,7 +227,7 @@ pub record Plays {V : Type 0} (size : V → ℕ) (old new : SwitchView V) (e : E
 
 abbrev pub CanCommitPending : {V : Type 0} → (V → ℕ) → NetView V → Option (StagedEvent V) → Type 0
 CanCommitPending size net None = Unit {0}
-CanCommitPending size net (Some staged) = IsStaged size net staged × HasSpareCapacity net (length (posts_of staged.work)) 1 × (length net.history.events < MAX_EVENTS)
+CanCommitPending size net (Some staged) = IsStaged size net staged × HasSpareCapacity net (length (posts_of staged.work)) 1 × (length net.history.events < net.history.event_limit)
 
 abbrev pub CommitsPending : {V : Type 0} → NetView V → NetView V → Option (StagedEvent V) → Type 0
 CommitsPending old new None = new ≡ old

@@ -7,7 +7,6 @@ pub use Rattle.net.specs.History.{AreOfWorld}
 pub use Rattle.net.specs.World.{World, after, event_result, log_after}
 pub use Rattle.net.specs.declared.event.Event.{Event}
 pub use Rattle.net.specs.declared.event.Event.TheVariants.{Begin, Deliver, Offer, Restart}
-pub use Rattle.net.specs.declared.event.TheConstants.{MAX_EVENTS}
 pub use Rattle.net.specs.declared.fault.StepFault.{StepFault}
 pub use Rattle.net.specs.declared.fault.StepFault.TheVariants.{Device, Down, EventsSpent, Memory, NoPacket}
 pub use Rattle.synod.specs.Node.{Node, kept_of}

@@ -5,7 +5,7 @@ ghost use Rattle.net.specs.declared.event.Event.TheVariants.{Restart};
 ghost use Rattle.switch.specs.Switch.{is_down_at, world_of, IsEffectUnlessDown, IsEffectAtDownNode, CanCommitPending, CommitsPending};
 
 use crate::switch::Switch;
-use net::{Event, MAX_EVENTS, Net, StagedEvent, StepFault};
+use net::{Event, Net, StagedEvent, StepFault};
 use synod::{Keep, Value};
 
 impl<V: Value, K: Keep<V>> Switch<V, K> {
@@ -28,7 +28,8 @@ impl<V: Value, K: Keep<V>> Switch<V, K> {
         requires { is_down_at self.old.stores (Some k) ≡ true }
         ensures { ForOk (world_of V.bytes self.old) (λ world. IsEffectAtDownNode V.bytes world self.old self.new (Restart k) result) }
     {
-        if self.net.history().len() as u64 + 2 > MAX_EVENTS {
+        let left = self.net.event_limit() - self.net.history().len() as u64;
+        if left < 2 {
             return Err(StepFault::EventsSpent);
         }
         let mut staged = self.net.stage(Event::Restart(k))?;

@@ -4,21 +4,21 @@ ghost use Rattle.std.specs.List.{AllByRecursion};
 ghost use Rattle.std.specs.Result.{ForOk};
 ghost use Rattle.slots.specs.declared.slots.TheConstants.{SLOTS};
 ghost use Rattle.synod.specs.Record.{new_kept};
-ghost use Rattle.net.specs.declared.event.TheConstants.{MAX_EVENTS};
 ghost use Rattle.net.specs.declared.fault.StepFault.TheVariants.{NoNode, Memory};
 ghost use Rattle.net.specs.World.{IsLogEntry};
 ghost use Rattle.net.specs.KeptPart.{node_of};
 ghost use Rattle.switch.specs.Switch.{AreStores, IsPacketResult, is_down_at, new_views, new_stores, world_of};
 
 use crate::node_store::NodeStore;
-use net::{Event, MAX_EVENTS, Net, StepFault};
+use net::{Event, Net, StepFault};
 use std::alloc::{AllocError, Global};
 use std::marker::Model;
 use synod::{Keep, Packet, Value, Weights};
 
 /// The nodes of one replicated log, their packets and their stores. Contracts see the weights, the
-/// history and, for each node, the record that its keep would load, how many calls of the keep
-/// failed, and whether the node is up, or down with the pending event, if there is one.
+/// limit on events, the history and, for each node, the record that its keep would load, how many
+/// calls of the keep failed, and whether the node is up, or down with the pending event, if there is
+/// one.
 #[derive(Drop)]
 pub struct Switch<V: Value, K: Keep<V>> {
     pub(crate) net: Net<V>,
@@ -30,22 +30,28 @@ impl<V: Value, K: Keep<V>> Model for Switch<V, K> {
 
     ghost Value = { SwitchView V };
 
-    ghost view = { λ s. record { weights = s.net.history.weights; history = s.net.history.events; stores = views_of s.stores.items } };
+    ghost view = { λ s. record { weights = s.net.history.weights; event_limit = s.net.history.event_limit; history = s.net.history.events; stores = views_of s.stores.items } };
 
     ghost invariant = { λ s. IsSwitch V.bytes s.net s.stores.items };
 }
 
 impl<V: Value, K: Keep<V>> Switch<V, K> {
-    /// Creates new nodes with their keeps, one for each weight, before any event.
+    /// Creates new nodes with their keeps, one for each weight, before any event. The switch takes
+    /// at most `event_limit` events.
     ///
     /// Errors: `Memory`.
-    pub fn new(alloc: Global, weights: Weights, keeps: Vec<K>) -> Result<Self, StepFault>
+    pub fn new(
+        alloc: Global,
+        weights: Weights,
+        event_limit: u64,
+        keeps: Vec<K>,
+    ) -> Result<Self, StepFault>
         requires count { length keeps.items ≡ length weights }
         requires new { AllByRecursion (λ keep. K.kept keep ≡ new_kept) keeps.items }
-        ensures new { IfOk result (λ switch. switch ≡ record { weights = weights; history = []; stores = new_views K.failures keeps.items }) }
+        ensures new { IfOk result (λ switch. switch ≡ record { weights = weights; event_limit = event_limit; history = []; stores = new_views K.failures keeps.items }) }
         ensures only_memory { IsOkUnless result Memory }
     {
-        let net = Net::new(alloc, weights)?;
+        let net = Net::new(alloc, weights, event_limit)?;
         let stores = new_stores(alloc, keeps)?;
         Ok(Switch { net, stores })
     }
@@ -82,11 +88,18 @@ impl<V: Value, K: Keep<V>> Switch<V, K> {
     /// part with the change of the pending event made.
     pub fn history(&self) -> &[Event<V>]
         ensures history { result.now ≡ self.now.history }
-        ensures few { length result.now ≤ MAX_EVENTS }
+        ensures few { length result.now ≤ self.now.event_limit }
         ensures history_taken { IsOk (world_of V.bytes self.now) }
         ensures stores { ForOk (world_of V.bytes self.now) (λ world. AreStores V.bytes world self.now.stores) }
     {
         self.net.history()
+    }
+
+    /// Returns the number of events that the switch takes.
+    pub fn event_limit(&self) -> u64
+        ensures { result ≡ self.now.event_limit }
+    {
+        self.net.event_limit()
     }
 
     /// Returns the node of an event: for a delivery the receiver of the packet, or `None` if there

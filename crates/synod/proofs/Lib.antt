@@ -9,6 +9,7 @@ pub mod PostsLemmas
 pub mod OtherTalliesLemmas
 pub mod ReceivedPagesLemmas
 pub mod KeptPartLemmas
+pub mod CopyLemmas
 pub mod NodeInvariant
 pub mod PageInvariant
 pub mod StepInvariant

@@ -4,6 +4,7 @@ pub mod Ballots
 pub mod Packets
 pub mod PromisePages
 pub mod Record
+pub mod Copies
 pub mod Node
 pub mod Log
 pub mod State

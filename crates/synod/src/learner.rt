@@ -1,7 +1,7 @@
 //! The learner: the votes that it has counted, and the values that it has learned.
 ghost use Rattle.std.specs.Prelude.{◌≡◌, ◌<◌, ◌≤◌, ℕ, OnOk, Option, Some, None, MatchOption, false, length, slice_index_or};
 ghost use Rattle.slots.specs.declared.slots.TheConstants.{SLOTS};
-ghost use Rattle.slots.specs.FiniteMap.{entry_at, put_at, front_of};
+ghost use Rattle.slots.specs.FiniteMap.{entry_at, put_at, front_of, top_of};
 
 use crate::ballot::Ballot;
 use crate::other_tallies::OtherTallies;
@@ -90,6 +90,13 @@ impl<V: Drop> Learner<V> {
         ensures within { result ≤ SLOTS }
     {
         self.learned.front()
+    }
+
+    /// Returns one above the greatest slot with a learned value, or 0 if there are none.
+    pub(crate) fn top(&self) -> u32
+        ensures { result ≡ top_of self.now.state.learned }
+    {
+        self.learned.top()
     }
 
     /// Returns the first gap once a value is learned at `slot`.

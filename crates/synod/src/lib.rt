@@ -8,7 +8,7 @@
 //!
 //! Reading order:
 //! - the messages and the kept part: `value`, `weights`, `ballot`, `packet`, `change`, `record`,
-//!   `keep`;
+//!   `copies`, `keep`;
 //! - the parts of a node: `posts`; for its acceptor `promise`; for its proposer `promise_pages`,
 //!   `proposer`, `leading`; for its learner `tally`, `other_tallies`, `learner`;
 //! - the node: `refusal`, `ready`, `node`.
@@ -16,6 +16,7 @@
 
 mod ballot;
 mod change;
+mod copies;
 mod keep;
 mod leading;
 mod learner;
@@ -35,6 +36,7 @@ mod weights;
 
 pub use ballot::Ballot;
 pub use change::{AcceptedEntry, Change};
+pub use copies::{copy_record, ready_change};
 pub use keep::{Failed, Keep};
 pub use node::{NodeCore, NodeState};
 pub use packet::{Body, MAX_PAGES, PAGE_REPORTS, Packet, Reports, SlotReport};

@@ -6,7 +6,7 @@ use bytes::Bytes;
 use cluster::MemoryKeep;
 use library::{Entry, Submission, Verdict};
 use net::StepFault;
-use nodes::{Cluster, Desk, Weather, start};
+use nodes::{Cluster, ClusterSetup, Desk, Weather, start};
 use std::alloc::{AllocError, Global};
 use std::sync::{Arc, Wait};
 use std::thread;
@@ -50,7 +50,12 @@ pub fn start_three_nodes<
     ] else {
         return Err(StepFault::Memory);
     };
-    start(rt, alloc, weights, PoolSize::new(2), gate, weathers, keeps)
+    let setup = ClusterSetup {
+        weights,
+        event_limit: 1_000_000,
+        workers: PoolSize::new(2),
+    };
+    start(rt, alloc, &setup, gate, weathers, keeps)
 }
 
 /// Starts three nodes with these weathers and an open gate.

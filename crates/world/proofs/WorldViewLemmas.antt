@@ -66,7 +66,7 @@ no_restart k (Restart j) is = λ same. cc
 module _ (history : History Carried) (w x : World Carried) (was : world_of carried_size history ≡ Ok w) (e : Event Carried) (is : world_of carried_size (with_event history e) ≡ Ok x) where
   -- the event leads from the world before it to the one after it
   happened : event_result carried_size w e ≡ Ok x
-  happened = sym (after-push carried_size history.weights history.events w e was) ∙ is
+  happened = sym (after-push carried_size history.weights history.event_limit history.events w e was) ∙ is
 
   -- the log of node k before an event other than its restart is a prefix of the log after it
   log_longer : (k : ℕ) → e ≢ Restart k → IsPrefixOf (log_entries history k) (log_entries (with_event history e) k)
@@ -103,7 +103,7 @@ as_many libraries (Some k) = length-set libraries k new_node_library
 
 -- if a history with one more event is taken, so is the history
 ok_before : (history : History Carried) (e : Event Carried) → IsOk (world_of carried_size (with_event history e)) → IsOk (world_of carried_size history)
-ok_before history e is = before (world_of carried_size history) (subst IsOk (events_result-append carried_size history.events (e ∷ []) (Ok (start history.weights))) is) where
+ok_before history e is = before (world_of carried_size history) (subst IsOk (events_result-append carried_size history.events (e ∷ []) (Ok (start history.weights history.event_limit))) is) where
   before : (r : Result (World Carried) StepFault) → IsOk (events_result carried_size (e ∷ []) r) → IsOk r
   before (Ok w) h = refl
   before (Err fault) h = h
@@ -171,9 +171,9 @@ new_given_up n (Some k) = set_again n k where
   set_again (suc m) (suc i) = ap (λ ls. new_node_library ∷ ls) (set_again m i)
 
 -- with one more event the world of a run still has new libraries
-pub run_goes_on : (weights : List ℕ) (done : List (Event Entry)) (e : Event Entry) (old new : WorldView) → old ≡ record { history = record { weights = weights; events = value_events done }; libraries = new_node_libraries weights }
-    → new ≡ after_event old (value_event e) → new ≡ record { history = record { weights = weights; events = value_events (done ++ e ∷ []) }; libraries = new_node_libraries weights }
-run_goes_on weights done e old new was is =
+pub run_goes_on : (weights : List ℕ) (limit : ℕ) (done : List (Event Entry)) (e : Event Entry) (old new : WorldView) → old ≡ record { history = record { weights = weights; event_limit = limit; events = value_events done }; libraries = new_node_libraries weights }
+    → new ≡ after_event old (value_event e) → new ≡ record { history = record { weights = weights; event_limit = limit; events = value_events (done ++ e ∷ []) }; libraries = new_node_libraries weights }
+run_goes_on weights limit done e old new was is =
     is ∙ (ap (λ (r : WorldView). after_event r (value_event e)) was
-    ∙ (ap (λ (es : List (Event Carried)). let r : WorldView = record { history = record { weights = weights; events = es }; libraries = with_library_reset (new_node_libraries weights) (node_restarted (value_event e)) } in r) (sym (value_events-append done (e ∷ [])))
-    ∙ ap (λ (ls : List NodeLibrary). let r : WorldView = record { history = record { weights = weights; events = value_events (done ++ e ∷ []) }; libraries = ls } in r) (new_given_up (length weights) (node_restarted (value_event e)))))
+    ∙ (ap (λ (es : List (Event Carried)). let r : WorldView = record { history = record { weights = weights; event_limit = limit; events = es }; libraries = with_library_reset (new_node_libraries weights) (node_restarted (value_event e)) } in r) (sym (value_events-append done (e ∷ [])))
+    ∙ ap (λ (ls : List NodeLibrary). let r : WorldView = record { history = record { weights = weights; event_limit = limit; events = value_events (done ++ e ∷ []) }; libraries = ls } in r) (new_given_up (length weights) (node_restarted (value_event e)))))

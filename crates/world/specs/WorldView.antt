@@ -1,5 +1,5 @@
--- A world as contracts see it: its weights, the events taken, and each node's library with the
--- count of entries applied.
+-- A world as contracts see it: its weights, its limit on events, the events taken, and each node's
+-- library with the count of entries applied.
 -- Source: Lamport, Paxos Made Simple, section 3: a server executes the commands in order, each when
 -- it knows all earlier ones.
 -- The code has the nodes and packets too; by an invariant of its type (`AreLibrariesOfLogs`), each
@@ -27,9 +27,9 @@ new_node_library = record { applied = 0; library = empty }
 abbrev pub new_node_libraries : List ℕ → List NodeLibrary
 new_node_libraries weights = replicate (length weights) new_node_library
 
--- a world before any event
-abbrev pub new_world : List ℕ → WorldView
-new_world weights = record { history = record { weights = weights; events = [] }; libraries = new_node_libraries weights }
+-- a world before any event, with a limit on the number of events
+abbrev pub new_world : List ℕ → ℕ → WorldView
+new_world weights limit = record { history = record { weights = weights; event_limit = limit; events = [] }; libraries = new_node_libraries weights }
 
 -- the node that the event restarts, if it is a restart
 abbrev pub node_restarted : {V : Type 0} → Event V → Option ℕ

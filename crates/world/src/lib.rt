@@ -6,16 +6,18 @@
 //! `run` serves tests.
 //!
 //! Reading order: the definitions in `specs/Carried`, `WorldView` and `Headline`; then the modules
-//! `carried`, `node_library`, `world`, `run_of_events` and `laws`.
+//! `carried`, `node_library`, `health`, `world`, `run_of_events` and `laws`.
 #![tactic(auto)]
 
 mod carried;
+mod health;
 mod laws;
 mod node_library;
 mod run_of_events;
 mod world;
 
 pub use carried::Carried;
+pub use health::{Health, NodeStatus};
 pub use laws::headline;
 pub use node_library::NodeLibrary;
 pub use run_of_events::run;

@@ -11,8 +11,8 @@ use net::{Event, StepFault};
 use std::alloc::Global;
 use synod::Weights;
 
-/// Takes all events, starting with new nodes, and returns the world after them. No entry is applied
-/// yet: its libraries are empty.
+/// Takes all events, starting with new nodes, and returns the world after them, which takes at most
+/// `event_limit` events. No entry is applied yet: its libraries are empty.
 ///
 /// Errors: the index from 0 of the first event that is refused, with its fault, or with `Memory` if
 /// it meets none. The index is 0 if creating the new nodes runs out of memory. Cost: that of the
@@ -20,19 +20,20 @@ use synod::Weights;
 pub fn run(
     alloc: Global,
     weights: Weights,
+    event_limit: u64,
     events: Vec<Event<Entry>>,
-) -> Result<World, (u32, StepFault)>
-    ensures taken { IfOk result (λ world. world ≡ record { history = record { weights = weights; events = value_events events.items }; libraries = new_node_libraries weights }) }
-    ensures headline { OnOk result (Headline (record { weights = weights; events = value_events events.items })) }
-    ensures stops { IfErr result (λ stop. RunStopsAt carried_size weights (value_events events.items) stop.0 stop.1) }
+) -> Result<World, (usize, StepFault)>
+    ensures taken { IfOk result (λ world. world ≡ record { history = record { weights = weights; event_limit = event_limit; events = value_events events.items }; libraries = new_node_libraries weights }) }
+    ensures headline { OnOk result (Headline (record { weights = weights; event_limit = event_limit; events = value_events events.items })) }
+    ensures stops { IfErr result (λ stop. RunStopsAt carried_size weights event_limit (value_events events.items) stop.0 stop.1) }
 {
-    let mut world = match World::new(alloc, weights) {
+    let mut world = match World::new(alloc, weights, event_limit) {
         Ok(world) => world,
         Err(fault) => return Err((0, fault)),
     };
     for event in events {
         if let Err(fault) = world.step(event) {
-            return Err((world.history().len() as u32, fault));
+            return Err((world.history().len(), fault));
         }
     }
     Ok(world)

@@ -10,13 +10,13 @@ ghost use Rattle.net.specs.declared.fault.StepFault.TheVariants.{NoNode, NoPacke
 use crate::carried::{Carried, entries_of, restarted_node, to_value_event};
 use crate::node_library::{NodeLibrary, new_libraries, reset_library};
 use library::{Entry, Library, Verdict};
-use net::{Event, MAX_EVENTS, Net, StepFault};
+use net::{Event, Net, StepFault};
 use std::alloc::Global;
 use std::marker::Model;
 use synod::{NodeState, Packet, Weights};
 
-/// A world of nodes and their libraries. Contracts see the weights, the events taken, and each
-/// node's library with the count of entries applied.
+/// A world of nodes and their libraries. Contracts see the weights, the limit on events, the events
+/// taken, and each node's library with the count of entries applied.
 ///
 /// Source: Lamport, Paxos Made Simple, 2 and 3; the world after a list of events is in
 /// `net/specs/World.antt`, what contracts see of it in `specs/WorldView.antt`.
@@ -41,16 +41,17 @@ impl World {
     ghost use Rattle.world.specs.WorldView.{new_world, after_event, next_entry, AreLibrariesOfLogs, IsApplied};
     ghost use Rattle.world.specs.Headline.{Headline};
 
-    /// Creates a world of new nodes, each with an empty library.
+    /// Creates a world of new nodes, each with an empty library. It takes at most `event_limit`
+    /// events.
     ///
     /// Errors: `Memory`. Cost: a constant for each node.
-    pub fn new(alloc: Global, weights: Weights) -> Result<Self, StepFault>
-        ensures new { IfOk result (λ world. world ≡ new_world weights) }
+    pub fn new(alloc: Global, weights: Weights, event_limit: u64) -> Result<Self, StepFault>
+        ensures new { IfOk result (λ world. world ≡ new_world weights event_limit) }
         ensures only_memory { IsOkUnless result Memory }
     {
         Ok(World {
             alloc,
-            net: Net::new(alloc, weights)?,
+            net: Net::new(alloc, weights, event_limit)?,
             libraries: new_libraries(alloc, weights.count())?,
         })
     }
@@ -116,7 +117,7 @@ impl World {
     /// them.
     pub fn history(&self) -> &[Event<Carried>]
         ensures events { result.now ≡ self.now.history.events }
-        ensures few { length self.now.history.events ≤ MAX_EVENTS }
+        ensures few { length self.now.history.events ≤ self.now.history.event_limit }
         ensures headline { Headline self.now.history }
     {
         self.net.history()

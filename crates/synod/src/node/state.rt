@@ -5,6 +5,7 @@ use crate::ballot::Ballot;
 use crate::node::NodeCore;
 use crate::proposer::Role;
 use crate::value::Value;
+use std::cmp;
 
 /// The state that a node reports.
 #[derive(Clone, Copy, PartialEq, Eq)]
@@ -15,6 +16,8 @@ pub struct NodeState {
     pub promise: Ballot,
     /// The number of entries of its log: of the values learned before the first gap.
     pub log_len: u32,
+    /// One above the greatest slot at which it accepted or learned a value; 0 if there are none.
+    pub top: u32,
     /// The number of offered values that wait until it leads.
     pub waiting: usize,
 }
@@ -30,6 +33,7 @@ impl<V: Value> NodeCore<V> {
             role: self.proposer.role(),
             promise: self.kept_part.promise(),
             log_len: self.learner.first_gap(),
+            top: cmp::max(self.kept_part.top(), self.learner.top()),
             waiting: self.proposer.waiting().len(),
         }
     }

@@ -13,14 +13,14 @@ returns-in-Err-step-clause-stops c =
     let more = Yields-more into_iter_steps it done c.loop-event.event-iterator e c.next.new.self c.loop-event.yielded_by c.in-Some.ensures.steps in
     let split : c.args.events.items ≡ done ++ e ∷ rest = sym c.into_iter-event-iterator.ensures.into_iter_gives.0 ∙ (taken_front it (done ++ e ∷ []) c.next.new.self more ∙ append_assoc done (e ∷ []) rest) in
     let cut : value_events c.args.events.items ≡ value_events done ++ value_event e ∷ value_events rest = ap (λ (es : List (Event Entry)). value_events es) split ∙ value_events-append done (e ∷ rest) in
-    stops_there carried_size c.args.weights (value_events c.args.events.items) (value_events done) (value_events rest) (value_event e) c.loop-event.world.history c.step.new.self.history c.history.result.now c.in-Err-step.fault
+    stops_there carried_size c.args.weights c.args.event_limit (value_events c.args.events.items) (value_events done) (value_events rest) (value_event e) c.loop-event.world.history c.step.new.self.history c.history.result.now c.in-Err-step.fault
     cut (ap (λ (r : WorldView). r.history) c.loop-event.invariant.world) (ap (λ (r : WorldView). r.history) c.in-Err-step.ensures.same) c.history.ensures.events c.history.ensures.headline.agreement.is_taken c.in-Err-step.ensures.refused c.in-Err-step.ensures.only_memory
 
 pub loop-event-preserved : goal.loop-event-preserved
 loop-event-preserved c = record {
   can = tt;
   finite = tt;
-  world = run_goes_on c.args.weights c.loop-event.yielded c.in-Some.event c.loop-event.world c.step.new.self c.loop-event.invariant.world c.in_default.ensures.taken;
+  world = run_goes_on c.args.weights c.args.event_limit c.loop-event.yielded c.in-Some.event c.loop-event.world c.step.new.self c.loop-event.invariant.world c.in_default.ensures.taken;
   taken = step_taken c.loop-event.world c.step.new.self (value_event c.in-Some.event) c.step.result _ c.in_default.ensures.taken c.in_default.is c.step.ensures.refused;
 }
 
@@ -32,5 +32,5 @@ returns-clause-headline c =
     let whole : c.args.events.items ≡ done =
     sym c.into_iter-event-iterator.ensures.into_iter_gives.0 ∙ (taken_front c.into_iter-event-iterator.result done it c.loop-event.yielded_by
     ∙ (ap (λ (es : List (Event Entry)). done ++ es) none ∙ append-nil done)) in
-    subst Headline (ap (λ (r : WorldView). r.history) c.loop-event.invariant.world ∙ ap (λ (es : List (Event Entry)). let t : History Carried = record { weights = c.args.weights; events = value_events es } in t) (sym whole))
+    subst Headline (ap (λ (r : WorldView). r.history) c.loop-event.invariant.world ∙ ap (λ (es : List (Event Entry)). let t : History Carried = record { weights = c.args.weights; event_limit = c.args.event_limit; events = value_events es } in t) (sym whole))
     (headline_holds c.loop-event.world.history c.loop-event.invariant.taken)

@@ -1,5 +1,5 @@
 use Rattle.cluster.proofs.Words.{◌≡◌, Some, sym, subst, trimmed, KeptPart}
-use Rattle.cluster.proofs.CopiedSlotsLemmas.{stays_whole}
+use Rattle.synod.proofs.CopyLemmas.{stays_whole}
 use Rattle.cluster.proofs.memory_keep.MemoryKeepKeep.store.Goals as goal
 
 pub invariant_of-self-2 : goal.invariant_of-self-2

@@ -9,4 +9,4 @@ returns-clause-few g c = events_within g.V.Value.bytes _ _ _ _ c.self.invariant 
 pub returns-clause-agreement : goal.returns-clause-agreement
 returns-clause-agreement g c =
     subst (λ (n : NetView g.row.V.Denot). Agreement g.V.Value.bytes n.history) c.self.view_is
-    (agreement_of g.V.Value.bytes (record { weights = c.self.inside.weights; events = c.self.inside.events.items }) c.self.invariant.world c.self.invariant.is_after)
+    (agreement_of g.V.Value.bytes (record { weights = c.self.inside.weights; event_limit = c.self.inside.event_limit; events = c.self.inside.events.items }) c.self.invariant.world c.self.invariant.is_after)

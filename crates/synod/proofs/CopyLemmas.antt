@@ -1,6 +1,8 @@
 -- A map that ends in an entry still does so with one more entry, and is copied slot by slot.
-use Rattle.cluster.proofs.Words.{◌≡◌, ℕ, zero, suc, ◌+◌, ◌<◌, List, [], ◌∷◌, Option, Some, None, length, take, refl, ap, sym, ◌∙◌, subst, arith, add-one, le_of_suc-le-suc, entry_at, put_at, with_head, trimmed, AcceptedEntry, Change, Round, Promise, KeptPart, changed_by, with_copied_slot}
-use Rattle.synod.specs.declared.change.Change.TheVariants.{Entry}
+use Rattle.synod.proofs.Words.{◌≡◌, ℕ, zero, suc, ◌+◌, ◌<◌, List, [], ◌∷◌, Option, Some, None, length, take, refl, ap, sym, ◌∙◌, subst, arith, add-one, le_of_suc-le-suc, entry_at, put_at, AcceptedEntry, Change, KeptPart, changed_by}
+use Rattle.slots.specs.FiniteMap.{trimmed, with_head}
+use Rattle.synod.specs.declared.change.Change.TheVariants.{Entry, Promise, Round}
+use Rattle.synod.specs.Copies.{with_copied_slot}
 
 -- an empty slot before entries, one of which was put, is not trimmed away
 put_head : {T : Type 0} (xs : List (Option T)) (s : ℕ) (v : T) → with_head None (put_at xs s v) ≡ None ∷ put_at xs s v

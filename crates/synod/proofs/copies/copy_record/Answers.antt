@@ -1,6 +1,7 @@
-use Rattle.cluster.proofs.Words.{List, Option, ap, ◌∙◌, arith, entry_at, AcceptedEntry, with_copied_slot}
-use Rattle.cluster.proofs.CopiedSlotsLemmas.{with_next}
-use Rattle.cluster.proofs.memory_keep.copy_record.Goals as goal
+use Rattle.synod.proofs.Words.{List, Option, ap, ◌∙◌, arith, entry_at, AcceptedEntry}
+use Rattle.synod.specs.Copies.{with_copied_slot}
+use Rattle.synod.proofs.CopyLemmas.{with_next}
+use Rattle.synod.proofs.copies.copy_record.Goals as goal
 
 pub loop-slot-preserved : goal.loop-slot-preserved
 loop-slot-preserved g c =

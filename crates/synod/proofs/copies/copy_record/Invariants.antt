@@ -1,5 +1,6 @@
-use Rattle.cluster.proofs.Words.{◌≡◌, take, trimmed}
-use Rattle.cluster.proofs.memory_keep.copy_record.Given as goal
+use Rattle.synod.proofs.Words.{◌≡◌, take}
+use Rattle.slots.specs.FiniteMap.{trimmed}
+use Rattle.synod.proofs.copies.copy_record.Given as goal
 
 -- the copy has the entries of the slots so far
 abbrev pub invariant-loop-slot : goal.invariant-loop-slot

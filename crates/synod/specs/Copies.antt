@@ -2,7 +2,7 @@
 -- Source: this project's choice.
 -- The code copies a record slot by slot. A slot without an entry adds nothing.
 use Rattle.std.specs.Prelude.{ℕ, List, Option, Some, None}
-use Rattle.cluster.specs.Words.{put_at}
+use Rattle.slots.specs.FiniteMap.{put_at}
 
 abbrev pub with_copied_slot : {T : Type 0} → List (Option T) → ℕ → Option T → List (Option T)
 with_copied_slot xs s None = xs

@@ -1,0 +1,5 @@
+pub mod Words
+pub mod EntryLemmas
+pub mod RowLemmas
+pub mod TableLemmas
+pub mod KeepLemmas

@@ -1,0 +1,106 @@
+//! A keep in a file, with a witness of how many changes the file has.
+ghost use Rattle.std.specs.Prelude.{◌≡◌, ◌+◌, ◌≤◌, ◌⊎◌, ℕ, IfOk, OnErr, OnOk, is_ok, if◌then◌else◌};
+ghost use Rattle.sqlite_trees.specs.View.{IsClean};
+ghost use Rattle.synod.specs.Record.{changed};
+ghost use Rattle.file_keep.specs.Rows.{Says};
+ghost use Rattle.file_keep.specs.Tables.{HasTrees};
+ghost use Rattle.file_keep.specs.Keeps.{IsDurable, LeavesEither, LeavesOr, with_change};
+
+use crate::file_keep::FileKeep;
+use crate::stored_value::StoredValue;
+use sqlite_trees::error::StoreError;
+use sqlite_trees::store::Store;
+use std::alloc::Global;
+use std::marker::Model;
+use synod::{Change, Failed, Keep, Record};
+
+/// What stands beside the file of a node and tells how many changes the file has at least. Damage
+/// of a file may drop its last changes without an error; a file with fewer changes than its witness
+/// tells is damaged.
+pub trait Witness: Drop {
+    /// The number of changes that it tells.
+    ghost noted: { Self → ℕ };
+
+    /// Returns the number of changes that it tells.
+    fn count(&self) -> u64
+        ensures { result ≡ noted self.now };
+
+    /// Notes a number of changes. If that fails it tells the old number or the new one.
+    fn note(&mut self, changes: u64)
+        ensures { (noted self.new ≡ noted self.old) ⊎ (noted self.new ≡ changes) };
+}
+
+/// The stable storage of a node in a file that has a witness. A change is noted once it is
+/// committed, so the witness may tell fewer changes than the file has, and never more.
+#[derive(Drop)]
+pub struct WitnessedKeep<V: StoredValue, S: Store + Drop, W: Witness> {
+    keep: FileKeep<V, S>,
+    witness: W,
+}
+
+impl<V: StoredValue, S: Store + Drop, W: Witness> Model for WitnessedKeep<V, S, W> {
+    ghost use Rattle.file_keep.specs.Keeps.{WitnessedView};
+
+    ghost Value = { WitnessedView V S };
+
+    ghost view = { λ k. record { keep = k.keep; noted = W.noted k.witness } };
+}
+
+impl<V: StoredValue, S: Store + Drop, W: Witness> WitnessedKeep<V, S, W> {
+    /// Opens the keep of a node from a store that has the three trees, as `FileKeep::open` does.
+    ///
+    /// Errors: those of `FileKeep::open`; `Corrupt` if the file has fewer changes than its witness
+    /// tells.
+    pub fn open(alloc: Global, store: S, witness: W) -> Result<WitnessedKeep<V, S, W>, StoreError>
+        requires { IsClean (S.view store) → HasTrees (S.view store) }
+        ensures noted { IfOk result (λ keep. keep.noted ≡ W.noted witness) }
+        ensures whole { IfOk result (λ keep. W.noted witness ≤ keep.keep.content.changes) }
+        ensures durable { IfOk result (λ keep. IsDurable S.view S.recovers V.columns keep.keep) }
+        ensures failures { IfOk result (λ keep. keep.keep.failures ≡ 0) }
+        ensures crash { IfOk result (λ keep. LeavesOr S.view S.recovers V.columns store keep.keep.store keep.keep.content) }
+    {
+        let keep = FileKeep::open(alloc, store)?;
+        if keep.changes() < witness.count() {
+            return Err(StoreError::Corrupt);
+        }
+        Ok(WitnessedKeep { keep, witness })
+    }
+}
+
+impl<V: StoredValue, S: Store + Drop, W: Witness> Keep<V> for WitnessedKeep<V, S, W> {
+    ghost kept = { λ k. k.keep.content.kept };
+
+    ghost failures = { λ k. k.keep.failures };
+
+    /// Stores one change, as `FileKeep` does, and then notes how many there are.
+    fn store(&mut self, change: &Change<V>) -> Result<(), Failed>
+        ensures stored { OnOk result (self.new.keep.content.kept ≡ changed self.old.keep.content.kept change.now) }
+        ensures failed { OnErr result ((self.new.keep.content.kept ≡ self.old.keep.content.kept) ⊎ (self.new.keep.content.kept ≡ changed self.old.keep.content.kept change.now)) }
+        ensures counted { self.new.keep.failures ≡ (if is_ok result then self.old.keep.failures else self.old.keep.failures + 1) }
+        ensures noted { OnOk result ((self.new.noted ≡ self.old.noted) ⊎ (self.new.noted ≡ self.new.keep.content.changes)) }
+        ensures unnoted { OnErr result (self.new.noted ≡ self.old.noted) }
+        ensures durable { OnOk result (IsDurable S.view S.recovers V.columns self.new.keep) }
+        ensures changed { OnOk result (self.new.keep.content ≡ with_change self.old.keep.content change.now) }
+        ensures either { OnErr result ((self.new.keep.content ≡ self.old.keep.content) ⊎ (self.new.keep.content ≡ with_change self.old.keep.content change.now)) }
+        ensures crash { LeavesEither S.view S.recovers V.columns self.old.keep.store self.new.keep.store self.old.keep.content self.new.keep.content }
+    {
+        self.keep.store(change)?;
+        self.witness.note(self.keep.changes());
+        Ok(())
+    }
+
+    /// Reads the file, and returns the record.
+    fn load(&mut self) -> Result<Record<V>, Failed>
+        ensures loaded { IfOk result (λ loaded. loaded.kept ≡ self.old.keep.content.kept) }
+        ensures same { self.new.keep.content.kept ≡ self.old.keep.content.kept }
+        ensures counted { self.new.keep.failures ≡ (if is_ok result then self.old.keep.failures else self.old.keep.failures + 1) }
+        ensures noted { self.new.noted ≡ self.old.noted }
+        ensures found { IfOk result (λ loaded. IsClean (S.view self.new.keep.store) → Says V.columns (S.view self.new.keep.store).committed
+            (record { kept = loaded.kept; changes = self.new.keep.content.changes })) }
+        ensures durable { OnOk result (IsDurable S.view S.recovers V.columns self.new.keep) }
+        ensures content { self.new.keep.content ≡ self.old.keep.content }
+        ensures crash { LeavesOr S.view S.recovers V.columns self.old.keep.store self.new.keep.store self.new.keep.content }
+    {
+        self.keep.load()
+    }
+}
