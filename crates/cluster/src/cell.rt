@@ -1,6 +1,7 @@
 //! The cell of a node: the entries that were taken over from its log, and the library of those
 //! applied.
-ghost use Rattle.std.specs.Prelude.{◌≡◌, ◌↔◌, ◌<◌, ◌≤◌, IsTrue, [], Ok, Err, Some, None, length, slice_get, option_map, IsOk, IfOk, OnOk, OnErr, IsOkUnless};
+ghost use Rattle.std.specs.Prelude.{◌≡◌, ◌↔◌, ◌<◌, ◌≤◌, IsTrue, [], Ok, Err, Some, None, length};
+ghost use Rattle.std.specs.Prelude.{slice_get, option_map, IsOk, IfOk, OnOk, OnErr, IsOkUnless};
 ghost use Rattle.std.specs.List.{AllByRecursion};
 ghost use Rattle.library.specs.Listed.{listed};
 ghost use Rattle.synod.specs.Record.{new_kept};
@@ -10,7 +11,8 @@ ghost use Rattle.world.specs.WorldView.{AppliesNext};
 ghost use Rattle.switch.specs.Switch.{new_views, world_of};
 ghost use Rattle.cluster.specs.Belongs.{Belongs, EachBelongs};
 ghost use Rattle.cluster.specs.Cells.{new_cells};
-ghost use Rattle.cluster.specs.Cell.{Cell, new_cell, IsCell, AddsEntry, TakesOver, next_entry, next_log_entry};
+ghost use Rattle.cluster.specs.Cell.{Cell, new_cell, IsCell, AddsEntry, TakesOver, next_entry};
+ghost use Rattle.cluster.specs.Cell.{next_log_entry};
 
 use crate::log::is_log_prefix;
 use library::{Library, Listed, Verdict};
@@ -129,7 +131,8 @@ pub fn take_on<K: Keep<Carried>>(
 ) -> Result<bool, StepFault>
     ensures history_taken { IsOk (world_of carried_size switch.now) }
     ensures no_node { length switch.now.stores ≤ cell.old.node → (result ≡ Err NoNode) × (cell.new ≡ cell.old) }
-    ensures takes { cell.old.node < length switch.now.stores → TakesOver cell.old cell.new (next_log_entry switch.now cell.old) result }
+    ensures takes { cell.old.node < length switch.now.stores
+        → TakesOver cell.old cell.new (next_log_entry switch.now cell.old) result }
     ensures belongs { Belongs cell.old switch.now → Belongs cell.new switch.now }
 {
     let slot = cell.entries.len() as u32;
@@ -222,7 +225,9 @@ pub fn cells<K: Keep<Carried>>(
 ) -> Result<(Switch<Carried, K>, Vec<NodeCell>), StepFault>
     requires count { length keeps.items ≡ length weights }
     requires new { AllByRecursion (λ keep. K.kept keep ≡ new_kept) keeps.items }
-    ensures switch { IfOk result (λ parts. parts.0 ≡ record { weights = weights; event_limit = event_limit; history = []; stores = new_views K.failures keeps.items }) }
+    ensures switch { IfOk result
+        (λ parts. parts.0
+        ≡ record { weights = weights; event_limit = event_limit; history = []; stores = new_views K.failures keeps.items }) }
     ensures cells { IfOk result (λ parts. parts.1.items ≡ new_cells 0 weights) }
     ensures belong { IfOk result (λ parts. EachBelongs parts.1.items parts.0) }
     ensures only_memory { IsOkUnless result Memory }

@@ -1,7 +1,8 @@
 //! The lines of `play`.
 ghost use Rattle.std.specs.Prelude.{◌≡◌};
 ghost use Rattle.commands.specs.Scripts.{Parses};
-ghost use Rattle.commands.specs.PlayLines.{line_or_common_line, play_line_of, play_text_form, play_only_line};
+ghost use Rattle.commands.specs.PlayLines.{line_or_common_line, play_line_of, play_text_form};
+ghost use Rattle.commands.specs.PlayLines.{play_only_line};
 
 use crate::common_line::{CommonLine, parse_common_line};
 use crate::line_words::Words;

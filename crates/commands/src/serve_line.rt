@@ -1,7 +1,8 @@
 //! The lines of `serve`.
 ghost use Rattle.std.specs.Prelude.{◌≡◌};
 ghost use Rattle.commands.specs.Scripts.{Parses, ParsesLine};
-ghost use Rattle.commands.specs.ServeLines.{add_form, add_line_or_else, line_or_common_line, serve_line_of};
+ghost use Rattle.commands.specs.ServeLines.{add_form, add_line_or_else, line_or_common_line};
+ghost use Rattle.commands.specs.ServeLines.{serve_line_of};
 ghost use Rattle.commands.specs.ServeLines.{serve_only_line, submit_form};
 
 use crate::common_line::{CommonLine, parse_common_line};

@@ -46,7 +46,8 @@ pub struct Hypotheses<'a> {
 
 impl<'a> Model for Hypotheses<'a> {
     ghost use Rattle.std.specs.Prelude.{List, map};
-    ghost use Rattle.{entries.specs.declared.assertion_view.Hypothesis.Hypothesis, entries.specs.Hypotheses.decoded_hypothesis};
+    ghost use Rattle.entries.specs.declared.assertion_view.Hypothesis.{Hypothesis};
+    ghost use Rattle.entries.specs.Hypotheses.{decoded_hypothesis};
 
     ghost Value = { List Hypothesis };
 

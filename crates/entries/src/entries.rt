@@ -1,6 +1,12 @@
 //! The statements of a database as numbers, by position.
-ghost use Rattle.std.specs.Prelude.{◌≡◌, ◌≤◌, ◌<◌, ◌+◌, ◌^◌, ◌++◌, ◌∷◌, [], length, take, slice_get, Some, OnOk, OnErr, IfOk, IfSome, IfNone, true, false};
-ghost use Rattle.{entries.specs.Entries.Entry, entries.specs.Entries.IsEntry, entries.specs.Entries.IsWholeView, entries.specs.Entries.AreShapedParts, entries.specs.Entries.assertion_of, entries.specs.Entries.entry_by, entries.specs.Stored.Records.IsPlaced, entries.specs.Stored.Records.IsStored, entries.specs.Stored.Records.has_parts, entries.specs.Stored.Records.layout_in, entries.specs.Stored.Records.record_of, entries.specs.Stored.Records.numbers_by, entries.specs.Stored.Records.numbers_of, entries.specs.Stored.Spans.Extends};
+ghost use Rattle.std.specs.Prelude.{◌≡◌, ◌≤◌, ◌<◌, ◌+◌, ◌^◌, ◌++◌, ◌∷◌, [], length, take};
+ghost use Rattle.std.specs.Prelude.{slice_get, Some, OnOk, OnErr, IfOk, IfSome, IfNone, true};
+ghost use Rattle.std.specs.Prelude.{false};
+ghost use Rattle.entries.specs.Entries.{Entry, IsEntry, IsWholeView, AreShapedParts, assertion_of};
+ghost use Rattle.entries.specs.Entries.{entry_by};
+ghost use Rattle.entries.specs.Stored.Records.{IsPlaced, IsStored, has_parts, layout_in, record_of};
+ghost use Rattle.entries.specs.Stored.Records.{numbers_by, numbers_of};
+ghost use Rattle.entries.specs.Stored.Spans.{Extends};
 
 use crate::assertion_view::{AssertionView, Hypotheses};
 use crate::buffer_part::{BufferPart, item, part, to_u32};
@@ -39,7 +45,8 @@ struct Stored<'a> {
 
 impl Model for Entries {
     ghost use Rattle.std.specs.Prelude.{List, length, ◌≡◌};
-    ghost use Rattle.{entries.specs.Entries.Entry, entries.specs.Stored.Records.bodies_of, entries.specs.Stored.Records.with_states_before, entries.specs.Stored.Records.ArePacked};
+    ghost use Rattle.entries.specs.Entries.{Entry};
+    ghost use Rattle.entries.specs.Stored.Records.{bodies_of, with_states_before, ArePacked};
 
     ghost Value = { List Entry };
 
@@ -167,7 +174,8 @@ impl Entries {
         parts: &AssertionParts<'_>,
     ) -> Result<(), AllocError>
         requires { AreShapedParts parts.now }
-        ensures added { OnOk result (self.new ≡ self.old ++ entry_by header parts.now.symbols.now (assertion_of parts.now) ∷ []) }
+        ensures added { OnOk result
+            (self.new ≡ self.old ++ entry_by header parts.now.symbols.now (assertion_of parts.now) ∷ []) }
         ensures same { OnErr result (self.new ≡ self.old) }
     {
         let count = self.records.len();
@@ -258,7 +266,9 @@ fn add(
 ) -> Result<(), AllocError>
     ensures added { OnOk result (numbers.new.items ≡ numbers.old.items ++ numbers_of (has_parts parts.now) parts.now) }
     ensures groups { OnOk result (groups.new.items ≡ groups.old.items ++ parts.now.groups.now) }
-    ensures last { OnOk result (records.new.items ≡ records.old.items ++ record_of header parts.now (length numbers.old.items) (length groups.old.items) ∷ []) }
+    ensures last { OnOk result
+        (records.new.items ≡ records.old.items
+        ++ record_of header parts.now (length numbers.old.items) (length groups.old.items) ∷ []) }
     ensures state_before { OnOk result (states_before.new.items ≡ states_before.old.items ++ header.before ∷ []) }
     ensures same { OnErr result (records.new.items ≡ records.old.items) }
     ensures more_states_before { Extends states_before.old.items states_before.new.items }

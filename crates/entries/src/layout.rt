@@ -1,6 +1,7 @@
 //! The layout of a statement's parts among its numbers.
 ghost use Rattle.std.specs.Prelude.{◌≡◌, ◌≤◌, ◌<◌, ◌^◌, length, IfOk, true};
-ghost use Rattle.{entries.specs.Stored.Records.layout_of_counts, entries.specs.Stored.Records.layout_in, entries.specs.Stored.Records.counts_of, entries.specs.declared.layout.TheConstants.COUNTS};
+ghost use Rattle.entries.specs.Stored.Records.{layout_of_counts, layout_in, counts_of};
+ghost use Rattle.entries.specs.declared.layout.TheConstants.{COUNTS};
 
 use crate::buffer_part::{item, to_u32};
 use crate::parts::AssertionParts;

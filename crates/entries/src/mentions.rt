@@ -1,7 +1,10 @@
 //! For each number, the statements that mention it, each with the mention that was active beneath
 //! it.
-ghost use Rattle.std.specs.Prelude.{◌≡◌, ℕ, ◌≤◌, ◌<◌, ◌++◌, ◌∷◌, [], length, take, IsTrue, IfSome, IfNone, OnOk, OnErr};
-ghost use Rattle.entries.specs.Mentions.{AreKeptUntil, AreMentions, AreSame, AreUntil, AreWith, IsFront, IsLast, IsPoppedAfter, IsUntil, before, mentions_of, positions_of};
+ghost use Rattle.std.specs.Prelude.{◌≡◌, ℕ, ◌≤◌, ◌<◌, ◌++◌, ◌∷◌, [], length, take, IsTrue, IfSome};
+ghost use Rattle.std.specs.Prelude.{IfNone, OnOk, OnErr};
+ghost use Rattle.entries.specs.Mentions.{AreKeptUntil, AreMentions, AreSame, AreUntil, AreWith};
+ghost use Rattle.entries.specs.Mentions.{IsFront, IsLast, IsPoppedAfter, IsUntil, before};
+ghost use Rattle.entries.specs.Mentions.{mentions_of, positions_of};
 
 use crate::room::give_back;
 use std::alloc::{AllocError, Global};
@@ -24,7 +27,8 @@ pub struct MentionList {
 
 impl Model for MentionList {
     ghost use Rattle.std.specs.Prelude.{List};
-    ghost use Rattle.{entries.specs.declared.mentions.Mention.Mention, entries.specs.Mentions.AreMentions};
+    ghost use Rattle.entries.specs.declared.mentions.Mention.{Mention};
+    ghost use Rattle.entries.specs.Mentions.{AreMentions};
 
     ghost Value = { List Mention };
 
@@ -104,7 +108,8 @@ pub struct MentionStack<'a> {
 
 impl<'a> Model for MentionStack<'a> {
     ghost use Rattle.std.specs.Prelude.{List};
-    ghost use Rattle.{entries.specs.declared.mentions.Mention.Mention, entries.specs.Mentions.AreMentions};
+    ghost use Rattle.entries.specs.declared.mentions.Mention.{Mention};
+    ghost use Rattle.entries.specs.Mentions.{AreMentions};
 
     ghost Value = { List Mention };
 
@@ -165,7 +170,8 @@ pub struct Mentions {
 
 impl Model for Mentions {
     ghost use Rattle.std.specs.Prelude.{List};
-    ghost use Rattle.{entries.specs.declared.mentions.Mention.Mention, entries.specs.Stored.MentionLog.AreLogged};
+    ghost use Rattle.entries.specs.declared.mentions.Mention.{Mention};
+    ghost use Rattle.entries.specs.Stored.MentionLog.{AreLogged};
 
     ghost Value = { List (List Mention) };
 

@@ -3,7 +3,8 @@ ghost use Rattle.std.specs.Prelude.{◌≡◌, ◌++◌, ◌^◌, ◌<◌, ◌==
 ghost use Rattle.commands.specs.PlayLines.{play_line_of};
 ghost use Rattle.commands.specs.Scripts.{script_of};
 ghost use Rattle.commands.specs.declared.script.TheConstants.{LINE_FEED};
-ghost use Rattle.event_lines.specs.EventLines.{EventIsInRange, lines_of_events, lines_of_event, counted_event_lines};
+ghost use Rattle.event_lines.specs.EventLines.{EventIsInRange, lines_of_events, lines_of_event};
+ghost use Rattle.event_lines.specs.EventLines.{counted_event_lines};
 ghost use Rattle.event_lines.specs.EventLines.{play_line_of_event, number_line};
 
 use crate::offers::push_offer;

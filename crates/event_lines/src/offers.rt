@@ -1,9 +1,12 @@
 //! Offers of entries as lines of `play`.
-ghost use Rattle.std.specs.Prelude.{◌≡◌, ◌++◌, ◌^◌, ◌<◌, ◌==◌, [], ◌∷◌, codes, decimal, length, map, OnOk};
+ghost use Rattle.std.specs.Prelude.{◌≡◌, ◌++◌, ◌^◌, ◌<◌, ◌==◌, [], ◌∷◌, codes, decimal, length};
+ghost use Rattle.std.specs.Prelude.{map, OnOk};
 ghost use Rattle.std.specs.List.{AllByRecursion, list_any};
 ghost use Rattle.commands.specs.declared.script.TheConstants.{LINE_FEED};
-ghost use Rattle.event_lines.specs.EventLines.{EntryIsInRange, TextIsInRange, spaced, text_offer_lines, offer_lines};
-ghost use Rattle.event_lines.specs.EventLines.{offer_bytes_line, offer_bytes_lines, offer_line, node_author_serial_words};
+ghost use Rattle.event_lines.specs.EventLines.{EntryIsInRange, TextIsInRange, spaced};
+ghost use Rattle.event_lines.specs.EventLines.{text_offer_lines, offer_lines};
+ghost use Rattle.event_lines.specs.EventLines.{offer_bytes_line, offer_bytes_lines, offer_line};
+ghost use Rattle.event_lines.specs.EventLines.{node_author_serial_words};
 
 use commands::LINE_FEED;
 use library::{Entry, Submission};

@@ -1,5 +1,6 @@
 //! Finds the rule that the letters of a compressed proof break.
-ghost use Rattle.std.specs.Prelude.{◌≡◌, ℕ, ◌+◌, ◌*◌, ◌<◌, ◌≤◌, ◌^◌, List, length, Some, slice_get, MatchOption, MatchResult};
+ghost use Rattle.std.specs.Prelude.{◌≡◌, ℕ, ◌+◌, ◌*◌, ◌<◌, ◌≤◌, ◌^◌, List, length, Some, slice_get};
+ghost use Rattle.std.specs.Prelude.{MatchOption, MatchResult};
 ghost use Rattle.mm_lex.specs.Alphabet.{Name};
 ghost use Rattle.proof_code.specs.declared.item.Item.{Item};
 ghost use Rattle.proof_code.specs.Text.{starts_with_mark};
@@ -26,7 +27,8 @@ pub(crate) struct LetterState {
 /// Cost: the letters.
 pub(crate) fn letter_break(letters: &[u8], label_count: usize) -> Option<LetterBreak>
     requires { 5 * (label_count + length letters.now) + 200 < 2 ^ 64 }
-    ensures { (names : List Name) → length names ≡ label_count → MatchOption result ((items : List Item) × WritesRow names letters.now items)
+    ensures { (names : List Name) → length names ≡ label_count
+        → MatchOption result ((items : List Item) × WritesRow names letters.now items)
         (IsLetterBreak names letters.now) }
 {
     if begins_with_mark(letters) {
@@ -66,7 +68,9 @@ impl LetterState {
         requires room { 5 * self.limit + 200 < 2 ^ 64 }
         requires index { index + 1 < 2 ^ 64 }
         requires small { 20 * self.digits ≤ self.limit }
-        ensures { (label_count : ℕ) (letters : List ℕ) → IsReadTo label_count letters index self.limit self.digits self.begin → slice_get letters index ≡ Some letter
+        ensures { (label_count : ℕ) (letters : List ℕ)
+            → IsReadTo label_count letters index self.limit self.digits self.begin
+            → slice_get letters index ≡ Some letter
             → MatchResult result (λ next. IsReadTo label_count letters (index + 1) next.limit next.digits next.begin)
             (λ broken. (names : List Name) → length names ≡ label_count → IsLetterBreak names letters broken) }
     {

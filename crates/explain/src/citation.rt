@@ -33,7 +33,9 @@ pub fn citation_fault(
     requires results { AllBelow (length frames.now.names) results.old.results.stack }
     requires stuck { CannotCite frames.now at statement results.old }
     ensures { (s : Statement) → stmt_at frames.now.statements statement ≡ Some s
-        → IfOk result (IsCitationFault frames.now.statements frames.now.names at (named_results frames.now results.old) statement s) }
+        → IfOk result
+        (IsCitationFault frames.now.statements frames.now.names at
+        (named_results frames.now results.old) statement s) }
 {
     match frames.meaning(at, statement) {
         Meaning::Hypothesis(_) => Ok(ItemFault::TooManySymbols),
@@ -59,7 +61,9 @@ fn assertion_fault(
     requires results { AllBelow (length frames.now.names) results.old.results.stack }
     requires stuck { CannotCite frames.now at cited_at results.old }
     ensures { (s : Statement) → stmt_at frames.now.statements cited_at ≡ Some s
-        → IfOk result (IsCitationFault frames.now.statements frames.now.names at (named_results frames.now results.old) cited_at s) }
+        → IfOk result
+        (IsCitationFault frames.now.statements frames.now.names at
+        (named_results frames.now results.old) cited_at s) }
 {
     let mut mandatory = Vec::new(alloc);
     frames.mandatory(cited_at, &mut mandatory)?;
@@ -105,11 +109,16 @@ fn results_fault(
     requires position { (1 ≤ at) × (at ≤ length frames.now.statements) }
     requires earlier { cited_at < at }
     requires assertion { (s : Statement) × HasAssertion frames.now.statements cited_at s }
-    requires mandatory { (s : Statement) → stmt_at frames.now.statements cited_at ≡ Some s → mandatory.now ≡ hypotheses (before frames.now.statements cited_at) s }
-    requires cited { (s : Statement) → stmt_at frames.now.statements cited_at ≡ Some s → IsViewOf frames.now.statements frames.now.names cited_at s cited.now }
+    requires mandatory { (s : Statement) → stmt_at frames.now.statements cited_at ≡ Some s
+        → mandatory.now ≡ hypotheses (before frames.now.statements cited_at) s }
+    requires cited { (s : Statement) → stmt_at frames.now.statements cited_at ≡ Some s
+        → IsViewOf frames.now.statements frames.now.names cited_at s cited.now }
     requires read { AreRead frames.now cited.now.hypotheses results.now }
     ensures { (s : Statement) → stmt_at frames.now.statements cited_at ≡ Some s
-        → IfOk result (λ r. MatchOption r (AreCorrectResults frames.now.statements at cited_at s (last_named frames.now cited.now.hypotheses results.now))
+        → IfOk result
+        (λ r. MatchOption r
+        (AreCorrectResults frames.now.statements at cited_at s
+        (last_named frames.now cited.now.hypotheses results.now))
         (IsResultsFault frames.now.statements frames.now.names at cited_at s (last_named frames.now cited.now.hypotheses results.now))) }
 {
     if let Some(fault) = first_mismatch(alloc, frames, cited_at, mandatory, cited, results)? {
@@ -145,11 +154,15 @@ fn first_mismatch(
 ) -> Result<Option<ItemFault>, AllocError>
     requires legal { HasLegalProperties frames.now.statements frames.now.names }
     requires assertion { (s : Statement) × HasAssertion frames.now.statements cited_at s }
-    requires mandatory { (s : Statement) → stmt_at frames.now.statements cited_at ≡ Some s → mandatory.now ≡ hypotheses (before frames.now.statements cited_at) s }
-    requires cited { (s : Statement) → stmt_at frames.now.statements cited_at ≡ Some s → IsViewOf frames.now.statements frames.now.names cited_at s cited.now }
+    requires mandatory { (s : Statement) → stmt_at frames.now.statements cited_at ≡ Some s
+        → mandatory.now ≡ hypotheses (before frames.now.statements cited_at) s }
+    requires cited { (s : Statement) → stmt_at frames.now.statements cited_at ≡ Some s
+        → IsViewOf frames.now.statements frames.now.names cited_at s cited.now }
     requires read { AreRead frames.now cited.now.hypotheses results.now }
     ensures { (s : Statement) → stmt_at frames.now.statements cited_at ≡ Some s
-        → IfOk result (λ r. MatchOption r (ResultsMatch frames.now.statements cited_at s (last_named frames.now cited.now.hypotheses results.now))
+        → IfOk result
+        (λ r. MatchOption r
+        (ResultsMatch frames.now.statements cited_at s (last_named frames.now cited.now.hypotheses results.now))
         (IsMismatchFault frames.now.statements frames.now.names cited_at s (last_named frames.now cited.now.hypotheses results.now))) }
 {
     let base = results.len() - mandatory.len();

@@ -31,7 +31,9 @@ pub fn explain(
     tokens: &Words,
 ) -> Result<Option<WhyUnproved>, AllocError>
     requires { (s : Statement) × IsProvable frames.now.statements at s }
-    ensures proved { IfOk result (λ why. MatchOption why (Proves frames.now.statements at tokens.now) (λ _. ¬ Proves frames.now.statements at tokens.now)) }
+    ensures proved { IfOk result
+        (λ why. MatchOption why (Proves frames.now.statements at tokens.now)
+        (λ _. ¬ Proves frames.now.statements at tokens.now)) }
     ensures first { IfOk result (λ why. IfSome why (IsWhy frames.now.statements frames.now.names at tokens.now)) }
 {
     match Checker::new(alloc).prove(frames, at, tokens)? {
@@ -83,7 +85,9 @@ fn items_of(alloc: Global, tokens: &Words, mandatory: &Words) -> Result<Option<I
 /// Errors: an allocation fails, or a label is not a word; no parsed statement has such a label.
 fn labels_of(alloc: Global, frames: &Frames, at: usize) -> Result<Words, AllocError>
     requires { (s : Statement) × IsProvable frames.now.statements at s }
-    ensures { IfOk result (λ labels. (s : Statement) → IsProvable frames.now.statements at s → labels ≡ mandatory_labels frames.now.statements at s) }
+    ensures { IfOk result
+        (λ labels. (s : Statement) → IsProvable frames.now.statements at s
+        → labels ≡ mandatory_labels frames.now.statements at s) }
 {
     let mut mandatory = Vec::new(alloc);
     frames.mandatory(at, &mut mandatory)?;

@@ -1,10 +1,12 @@
 //! The first fault of a proof.
-ghost use Rattle.std.specs.Prelude.{◌≡◌, ◌<◌, ◌≤◌, length, slice_get, IfOk, IfSome, MatchOption, Some};
+ghost use Rattle.std.specs.Prelude.{◌≡◌, ◌<◌, ◌≤◌, length, slice_get, IfOk, IfSome, MatchOption};
+ghost use Rattle.std.specs.Prelude.{Some};
 ghost use Rattle.mm_read.specs.declared.stmt.Stmt.{Stmt as Statement};
 ghost use Rattle.scope.specs.Active.{stmt_at};
 ghost use Rattle.proof_code.specs.declared.item.Item.{Item};
 ghost use Rattle.explain.specs.FirstFault.{IsItemFaultAfter, IsEndReason, IsFirstFault};
-ghost use Rattle.explain.specs.declared.reason.ItemFault.TheVariants.{TooManySymbols, NoMarkedResult};
+ghost use Rattle.explain.specs.declared.reason.ItemFault.TheVariants.{TooManySymbols};
+ghost use Rattle.explain.specs.declared.reason.ItemFault.TheVariants.{NoMarkedResult};
 ghost use Rattle.verify.specs.Right.{IsProvable, IsRight};
 ghost use Rattle.verify.specs.Stops.{IsNotOnly, IsStopped};
 
@@ -28,8 +30,11 @@ pub fn first_fault(
     items: &Items,
 ) -> Result<Option<Reason>, AllocError>
     requires { (s : Statement) × IsProvable frames.now.statements at s }
-    ensures right { IfOk result (λ r. MatchOption r (IsRight frames.now.statements at items.now) (λ _. ¬ IsRight frames.now.statements at items.now)) }
-    ensures first { (s : Statement) → stmt_at frames.now.statements at ≡ Some s → IfOk result (λ r. IfSome r (IsFirstFault frames.now.statements frames.now.names at s items.now)) }
+    ensures right { IfOk result
+        (λ r. MatchOption r (IsRight frames.now.statements at items.now)
+        (λ _. ¬ IsRight frames.now.statements at items.now)) }
+    ensures first { (s : Statement) → stmt_at frames.now.statements at ≡ Some s
+        → IfOk result (λ r. IfSome r (IsFirstFault frames.now.statements frames.now.names at s items.now)) }
 {
     let Some(failure) = first_failure(alloc, frames, at, items)? else {
         return Ok(None);
@@ -56,7 +61,8 @@ fn item_fault(
     requires position { (1 ≤ at) × (at ≤ length frames.now.statements) }
     requires item { item < length items.now }
     requires stopped { IsStopped frames.now.statements at frames.now.names items.now item results.old.results }
-    ensures { (failing : Item) → slice_get items.now item ≡ Some failing → IfOk result (IsItemFaultAfter frames.now at results.old failing) }
+    ensures { (failing : Item) → slice_get items.now item ≡ Some failing
+        → IfOk result (IsItemFaultAfter frames.now at results.old failing) }
 {
     let parts = items.parts();
     let number = parts.numbers[item] as usize;

@@ -1,9 +1,11 @@
 //! Compares a part of a database with the whole.
-ghost use Rattle.std.specs.Prelude.{◌≡◌, ℕ, ◌+◌, ◌<◌, ◌∷◌, ◌++◌, [], map, length, true, IsTrue, IfOk, Some, slice_get};
+ghost use Rattle.std.specs.Prelude.{◌≡◌, ℕ, ◌+◌, ◌<◌, ◌∷◌, ◌++◌, [], map, length, true, IsTrue};
+ghost use Rattle.std.specs.Prelude.{IfOk, Some, slice_get};
 ghost use Rattle.mm_read.specs.Statements.{IsShaped, AreShaped};
 ghost use Rattle.scope.specs.Active.{bare, is_assertion, stmt_at};
 ghost use Rattle.extract.specs.Parts.{IsPartOf};
-ghost use Rattle.extract.specs.Walk.{is_listed_assertion, HaveSameListedAssertions, IsSameFrame, IsWalked};
+ghost use Rattle.extract.specs.Walk.{is_listed_assertion, HaveSameListedAssertions, IsSameFrame};
+ghost use Rattle.extract.specs.Walk.{IsWalked};
 
 use crate::label_search::is_among;
 use frame::{Frame, frame};
@@ -38,7 +40,9 @@ pub fn is_confirmed_part(
 ) -> Result<bool, AllocError>
     requires { AreShaped whole.now }
     ensures part { IfOk result (λ yes. yes ≡ true → IsPartOf part.now whole.now) }
-    ensures assertions { IfOk result (λ yes. yes ≡ true → HaveSameListedAssertions whole.now part.now (map (λ label. label.now) labels.now) (length whole.now)) }
+    ensures assertions { IfOk result
+        (λ yes. yes ≡ true
+        → HaveSameListedAssertions whole.now part.now (map (λ label. label.now) labels.now) (length whole.now)) }
 {
     let mut walk = Walk {
         whole_scope: Scope::new(alloc),
@@ -58,9 +62,12 @@ fn walk_to_end(
     walk: &mut Walk,
 ) -> Result<bool, AllocError>
     requires shaped { AreShaped whole.now }
-    requires begins { IsWalked whole.now part.now (map (λ label. label.now) labels.now) 0 walk.old.found_count walk.old.whole_scope.statements walk.old.part_scope.statements }
+    requires begins { IsWalked whole.now part.now
+        (map (λ label. label.now) labels.now) 0 walk.old.found_count walk.old.whole_scope.statements walk.old.part_scope.statements }
     ensures part { IfOk result (λ yes. yes ≡ true → IsPartOf part.now whole.now) }
-    ensures assertions { IfOk result (λ yes. yes ≡ true → HaveSameListedAssertions whole.now part.now (map (λ label. label.now) labels.now) (length whole.now)) }
+    ensures assertions { IfOk result
+        (λ yes. yes ≡ true
+        → HaveSameListedAssertions whole.now part.now (map (λ label. label.now) labels.now) (length whole.now)) }
 {
     for index in 0..whole.len() {
         if !advance(alloc, whole, part, labels, index, walk)? {
@@ -83,8 +90,10 @@ fn advance(
     requires shaped { AreShaped whole.now }
     requires within { index < length whole.now }
     ensures { IfOk result (λ yes. yes ≡ true
-        → IsWalked whole.now part.now (map (λ label. label.now) labels.now) index walk.old.found_count walk.old.whole_scope.statements walk.old.part_scope.statements
-        → IsWalked whole.now part.now (map (λ label. label.now) labels.now) (index + 1) walk.new.found_count walk.new.whole_scope.statements walk.new.part_scope.statements) }
+        → IsWalked whole.now part.now
+        (map (λ label. label.now) labels.now) index walk.old.found_count walk.old.whole_scope.statements walk.old.part_scope.statements
+        → IsWalked whole.now part.now (map (λ label. label.now) labels.now)
+        (index + 1) walk.new.found_count walk.new.whole_scope.statements walk.new.part_scope.statements) }
 {
     let statement = &whole[index];
     let listed = is_listed(statement, labels);
@@ -105,8 +114,12 @@ fn advance(
 fn pass_both(walk: &mut Walk, statement: &Stmt, found_count: usize) -> Result<bool, AllocError>
     requires { IsShaped statement.now }
     ensures found_count { walk.new.found_count ≡ found_count }
-    ensures whole { IfOk result (λ yes. yes ≡ true → walk.new.whole_scope.statements ≡ walk.old.whole_scope.statements ++ bare statement.now ∷ []) }
-    ensures part { IfOk result (λ yes. yes ≡ true → walk.new.part_scope.statements ≡ walk.old.part_scope.statements ++ bare statement.now ∷ []) }
+    ensures whole { IfOk result
+        (λ yes. yes ≡ true
+        → walk.new.whole_scope.statements ≡ walk.old.whole_scope.statements ++ bare statement.now ∷ []) }
+    ensures part { IfOk result
+        (λ yes. yes ≡ true
+        → walk.new.part_scope.statements ≡ walk.old.part_scope.statements ++ bare statement.now ∷ []) }
 {
     walk.found_count = found_count;
     if !add_if_legal(&mut walk.part_scope, statement)? {
@@ -160,7 +173,9 @@ fn has_same_frame_if_listed(
     statement: &Stmt,
 ) -> Result<bool, AllocError>
     requires { listed ≡ true → IsTrue (is_assertion statement.now) }
-    ensures { IfOk result (λ yes. yes ≡ true → listed ≡ true → IsSameFrame whole.now part.now walk.now.whole_scope.statements walk.now.part_scope.statements statement.now) }
+    ensures { IfOk result
+        (λ yes. yes ≡ true → listed ≡ true
+        → IsSameFrame whole.now part.now walk.now.whole_scope.statements walk.now.part_scope.statements statement.now) }
 {
     if !listed {
         return Ok(true);
@@ -173,7 +188,8 @@ fn has_same_frame_if_listed(
 /// Returns whether two frames have equal statements as hypotheses, and the same groups of disjoint
 /// variables.
 fn are_frames_equal(whole: &[Stmt], part: &[Stmt], whole_frame: &Frame, part_frame: &Frame) -> bool
-    ensures positions { result ≡ true → map (stmt_at whole.now) whole_frame.now.hypotheses ≡ map (stmt_at part.now) part_frame.now.hypotheses }
+    ensures positions { result ≡ true
+        → map (stmt_at whole.now) whole_frame.now.hypotheses ≡ map (stmt_at part.now) part_frame.now.hypotheses }
     ensures groups { result ≡ true → whole_frame.now.groups ≡ part_frame.now.groups }
 {
     are_statements_equal_at_each(

@@ -22,9 +22,14 @@ use std::alloc::{AllocError, Global};
 /// comparison of each label with each assertion and each earlier label, and the active `$d` that
 /// have variables of the assertions taken, as `docs/COSTS.md` says. Source: Metamath, 4.2.
 pub fn extract(alloc: Global, library: &Library, labels: &[&str]) -> Result<Vec<u8>, ExtractFault>
-    ensures extract { IfOk result (λ text. IsExtract library.now.replica.statements (map (λ label. label.now) labels.now) text.items) }
-    ensures wrong { (fault : Fault) → IsFirstLabelFault library.now.replica.statements [] (map (λ label. label.now) labels.now) fault → result ≡ Err fault }
-    ensures only_wrong { IfErr result (λ fault. IsFirstLabelFault library.now.replica.statements [] (map (λ label. label.now) labels.now) fault ⊎ (fault ≡ ExtractFault.Memory)) }
+    ensures extract { IfOk result
+        (λ text. IsExtract library.now.replica.statements (map (λ label. label.now) labels.now) text.items) }
+    ensures wrong { (fault : Fault)
+        → IsFirstLabelFault library.now.replica.statements [] (map (λ label. label.now) labels.now) fault
+        → result ≡ Err fault }
+    ensures only_wrong { IfErr result
+        (λ fault. IsFirstLabelFault library.now.replica.statements [] (map (λ label. label.now) labels.now) fault
+        ⊎ (fault ≡ ExtractFault.Memory)) }
 {
     match first_label_fault(library.frames(), library.statements(), labels) {
         Some(fault) => Err(fault),
@@ -35,7 +40,8 @@ pub fn extract(alloc: Global, library: &Library, labels: &[&str]) -> Result<Vec<
 /// Returns the text of the chosen statements if they are an extract, else that of all statements.
 fn extract_text(alloc: Global, library: &Library, labels: &[&str]) -> Result<Vec<u8>, AllocError>
     requires { AreValidLabels library.now.replica.statements [] (map (λ label. label.now) labels.now) }
-    ensures { IfOk result (λ text. IsExtract library.now.replica.statements (map (λ label. label.now) labels.now) text.items) }
+    ensures { IfOk result
+        (λ text. IsExtract library.now.replica.statements (map (λ label. label.now) labels.now) text.items) }
 {
     let mut part = Library::new(alloc);
     extract_text_with(alloc, library, labels, &mut part)
@@ -50,7 +56,8 @@ fn extract_text_with(
     part: &mut Library,
 ) -> Result<Vec<u8>, AllocError>
     requires { AreValidLabels library.now.replica.statements [] (map (λ label. label.now) labels.now) }
-    ensures { IfOk result (λ text. IsExtract library.now.replica.statements (map (λ label. label.now) labels.now) text.items) }
+    ensures { IfOk result
+        (λ text. IsExtract library.now.replica.statements (map (λ label. label.now) labels.now) text.items) }
 {
     add_text(chosen_text(alloc, library, labels)?, part)?;
     if is_confirmed_part(alloc, library.statements(), part.statements(), labels)? {

@@ -21,8 +21,10 @@ pub(crate) fn first_label_fault(
     requires same { frames.now.statements ≡ bares statements.now }
     requires once { HasLabelsOnce frames.now.statements }
     ensures valid { result ≡ None → AreValidLabels statements.now [] (map (λ label. label.now) labels.now) }
-    ensures wrong { (fault : Fault) → result ≡ Some fault → IsFirstLabelFault statements.now [] (map (λ label. label.now) labels.now) fault }
-    ensures only { (fault : Fault) → IsFirstLabelFault statements.now [] (map (λ label. label.now) labels.now) fault → result ≡ Some fault }
+    ensures wrong { (fault : Fault) → result ≡ Some fault
+        → IsFirstLabelFault statements.now [] (map (λ label. label.now) labels.now) fault }
+    ensures only { (fault : Fault) → IsFirstLabelFault statements.now [] (map (λ label. label.now) labels.now) fault
+        → result ≡ Some fault }
 {
     for index in 0..labels.len() {
         let label = labels[index].as_bytes();

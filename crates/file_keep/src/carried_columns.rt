@@ -1,7 +1,8 @@
 //! Entries as columns of a row.
 ghost use Rattle.std.specs.Prelude.{◌≡◌, ◌++◌, IfOk, OnOk};
 ghost use Rattle.sqlite_value.specs.Order.{column};
-ghost use Rattle.file_keep.specs.EntryColumns.{IsCharterOf, IsEntryOf, entry_columns, names_text, numbers_read, unsigned_in};
+ghost use Rattle.file_keep.specs.EntryColumns.{IsCharterOf, IsEntryOf, entry_columns, names_text};
+ghost use Rattle.file_keep.specs.EntryColumns.{numbers_read, unsigned_in};
 
 use crate::rows::push_number;
 use crate::stored_value::StoredValue;

@@ -1,12 +1,14 @@
 //! A keep whose record is in a file.
-ghost use Rattle.std.specs.Prelude.{◌≡◌, false, ◌+◌, ◌⊎◌, ◌<◌, IsTrue, IfOk, OnOk, OnErr, Some, is_ok, if◌then◌else◌};
+ghost use Rattle.std.specs.Prelude.{◌≡◌, false, ◌+◌, ◌⊎◌, ◌<◌, IsTrue, IfOk, OnOk, OnErr, Some};
+ghost use Rattle.std.specs.Prelude.{is_ok, if◌then◌else◌};
 ghost use Rattle.slots.specs.FiniteMap.{entry_at, trimmed};
 ghost use Rattle.slots.specs.declared.slots.TheConstants.{SLOTS};
 ghost use Rattle.synod.specs.Record.{HasCapacityFor, changed};
 ghost use Rattle.sqlite_trees.specs.View.{IsClean};
 ghost use Rattle.file_keep.specs.Rows.{Says};
 ghost use Rattle.file_keep.specs.Tables.{HasTrees, Keeps, KeepsTrees};
-ghost use Rattle.file_keep.specs.Keeps.{IsDurable, IsSettledAt, LeavesEither, LeavesOr, Writes, is_settled, standing_after, with_change};
+ghost use Rattle.file_keep.specs.Keeps.{IsDurable, IsSettledAt, LeavesEither, LeavesOr, Writes};
+ghost use Rattle.file_keep.specs.Keeps.{is_settled, standing_after, with_change};
 
 use crate::reading::read_content;
 use crate::stored_value::StoredValue;
@@ -163,7 +165,8 @@ impl<V: StoredValue, S: Store + Drop> FileKeep<V, S> {
     fn store_change(&mut self, change: &Change<V>) -> Result<(), StoreError>
         ensures durable { OnOk result (IsDurable S.view S.recovers V.columns self.new) }
         ensures changed { OnOk result (self.new.content ≡ with_change self.old.content change.now) }
-        ensures failed { OnErr result ((self.new.content ≡ self.old.content) ⊎ (self.new.content ≡ with_change self.old.content change.now)) }
+        ensures failed { OnErr result
+            ((self.new.content ≡ self.old.content) ⊎ (self.new.content ≡ with_change self.old.content change.now)) }
         ensures failures { self.new.failures ≡ self.old.failures }
         ensures crash { LeavesEither S.view S.recovers V.columns self.old.store self.new.store self.old.content self.new.content }
     {
@@ -190,7 +193,9 @@ fn put_unwritten<V: StoredValue, S: Store + Drop>(
     standing: Standing,
 ) -> Result<(), StoreError>
     requires { IsClean (S.view tables.old.store) → HasTrees (S.view tables.old.store) }
-    ensures put { OnOk result (IsClean (S.view tables.new.store) → Writes V.columns (S.view tables.old.store) (S.view tables.new.store) standing
+    ensures put { OnOk result
+        (IsClean (S.view tables.new.store)
+        → Writes V.columns (S.view tables.old.store) (S.view tables.new.store) standing
         (record { kept = stored.now.kept; changes = changes })) }
     ensures keeps { Keeps S.view S.recovers tables.old.store tables.new.store }
 {
@@ -215,9 +220,12 @@ fn mend<V: StoredValue, S: Store + Drop>(
     standing: Standing,
 ) -> Result<(), StoreError>
     requires { IsClean (S.view tables.old.store) → HasTrees (S.view tables.old.store) }
-    ensures settled { OnOk result (IsClean (S.view tables.new.store) → IsSettledAt V.columns (S.view tables.new.store) (record { kept = stored.now.kept; changes = changes })) }
+    ensures settled { OnOk result
+        (IsClean (S.view tables.new.store)
+        → IsSettledAt V.columns (S.view tables.new.store) (record { kept = stored.now.kept; changes = changes })) }
     ensures keeps { KeepsTrees (S.view tables.old.store) (S.view tables.new.store) }
-    ensures crash { LeavesOr S.view S.recovers V.columns tables.old.store tables.new.store (record { kept = stored.now.kept; changes = changes }) }
+    ensures crash { LeavesOr S.view S.recovers V.columns tables.old.store tables.new.store
+        (record { kept = stored.now.kept; changes = changes }) }
 {
     tables.roll_back();
     put_unwritten(tables, stored, changes, standing)?;
@@ -234,11 +242,14 @@ impl<V: StoredValue, S: Store + Drop> Keep<V> for FileKeep<V, S> {
     /// it.
     fn store(&mut self, change: &Change<V>) -> Result<(), Failed>
         ensures stored { OnOk result (self.new.content.kept ≡ changed self.old.content.kept change.now) }
-        ensures failed { OnErr result ((self.new.content.kept ≡ self.old.content.kept) ⊎ (self.new.content.kept ≡ changed self.old.content.kept change.now)) }
+        ensures failed { OnErr result
+            ((self.new.content.kept ≡ self.old.content.kept)
+            ⊎ (self.new.content.kept ≡ changed self.old.content.kept change.now)) }
         ensures counted { self.new.failures ≡ (if is_ok result then self.old.failures else self.old.failures + 1) }
         ensures durable { OnOk result (IsDurable S.view S.recovers V.columns self.new) }
         ensures changed { OnOk result (self.new.content ≡ with_change self.old.content change.now) }
-        ensures either { OnErr result ((self.new.content ≡ self.old.content) ⊎ (self.new.content ≡ with_change self.old.content change.now)) }
+        ensures either { OnErr result
+            ((self.new.content ≡ self.old.content) ⊎ (self.new.content ≡ with_change self.old.content change.now)) }
         ensures crash { LeavesEither S.view S.recovers V.columns self.old.store self.new.store self.old.content self.new.content }
     {
         match self.store_change(change) {
@@ -255,7 +266,8 @@ impl<V: StoredValue, S: Store + Drop> Keep<V> for FileKeep<V, S> {
         ensures loaded { IfOk result (λ loaded. loaded.kept ≡ self.old.content.kept) }
         ensures same { self.new.content.kept ≡ self.old.content.kept }
         ensures counted { self.new.failures ≡ (if is_ok result then self.old.failures else self.old.failures + 1) }
-        ensures found { IfOk result (λ loaded. IsClean (S.view self.new.store) → Says V.columns (S.view self.new.store).committed
+        ensures found { IfOk result
+            (λ loaded. IsClean (S.view self.new.store) → Says V.columns (S.view self.new.store).committed
             (record { kept = loaded.kept; changes = self.new.content.changes })) }
         ensures durable { OnOk result (IsDurable S.view S.recovers V.columns self.new) }
         ensures content { self.new.content ≡ self.old.content }

@@ -1,7 +1,8 @@
 //! The rows that say a record.
 ghost use Rattle.std.specs.Prelude.{◌≡◌, ◌++◌, [], ◌∷◌, pos, OnOk};
 ghost use Rattle.sqlite_value.specs.declared.value.Value.TheVariants.{Int};
-ghost use Rattle.file_keep.specs.Rows.{number, row_at, ballot_columns, columns_in, node_row_of, number_of, text_columns};
+ghost use Rattle.file_keep.specs.Rows.{number, row_at, ballot_columns, columns_in, node_row_of};
+ghost use Rattle.file_keep.specs.Rows.{number_of, text_columns};
 
 use crate::stored_value::StoredValue;
 use sqlite_value::row::Row;

@@ -27,7 +27,8 @@ pub trait StoredValue: Value {
     ///
     /// Errors: an allocation fails.
     fn read(alloc: Global, row: &Row) -> Result<Option<Self>, AllocError>
-        ensures { (v : Self) (id : Column) → is_in_range v → row.now ≡ id ∷ Null ∷ columns v → IfOk result (λ found. found ≡ Some v) };
+        ensures { (v : Self) (id : Column) → is_in_range v → row.now ≡ id ∷ Null ∷ columns v
+            → IfOk result (λ found. found ≡ Some v) };
 
     ghost some: { (v : Self) → 0 < length (columns v) };
 }

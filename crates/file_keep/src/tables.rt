@@ -5,8 +5,10 @@ ghost use Rattle.sqlite_trees.specs.Tree.{rowid};
 ghost use Rattle.sqlite_trees.specs.View.{IsClean, StayLive};
 ghost use Rattle.sqlite_trees.specs.declared.store.Shape.TheVariants.{Table};
 ghost use Rattle.slots.specs.FiniteMap.{entry_at};
-ghost use Rattle.file_keep.specs.Rows.{Says, columns_in, node_row_of, number_of, rows_from, rows_of};
-ghost use Rattle.file_keep.specs.Tables.{Ends, Gives, HasTrees, IsCommitted, Keeps, KeepsTrees, LeavesTrees, PutsEntry, PutsNode, PutsRow, Reads, Scans};
+ghost use Rattle.file_keep.specs.Rows.{Says, columns_in, node_row_of, number_of, rows_from};
+ghost use Rattle.file_keep.specs.Rows.{rows_of};
+ghost use Rattle.file_keep.specs.Tables.{Ends, Gives, HasTrees, IsCommitted, Keeps, KeepsTrees};
+ghost use Rattle.file_keep.specs.Tables.{LeavesTrees, PutsEntry, PutsNode, PutsRow, Reads, Scans};
 
 use crate::rows::{ACCEPTED, NODE, SlotTree, TEXTS, write_node};
 use crate::stored_value::StoredValue;
@@ -44,7 +46,9 @@ impl<S: Store + Drop> Tables<S> {
     fn put(&mut self, tree: u32, id: u32) -> Result<(), StoreError>
         requires table { IsClean (S.view self.old.store) → (S.view self.old.store).shape tree ≡ Table }
         requires id { rowid self.old.row ≡ Int (pos id) }
-        ensures put { OnOk result (IsClean (S.view self.new.store) → PutsRow (S.view self.old.store) (S.view self.new.store) tree self.old.row) }
+        ensures put { OnOk result
+            (IsClean (S.view self.new.store)
+            → PutsRow (S.view self.old.store) (S.view self.new.store) tree self.old.row) }
         ensures keeps { Keeps S.view S.recovers self.old.store self.new.store }
     {
         if self.store.get(tree, i64::from(id), &mut self.found)? && self.row.is_same(&self.found) {
@@ -90,7 +94,9 @@ impl<S: Store + Drop> Tables<S> {
     /// Errors: `Corrupt` if the tree has another row or none.
     fn expect(&mut self) -> Result<(), StoreError>
         requires { IsSome ((S.view self.old.store).cursors 0) }
-        ensures next { OnOk result (IsClean (S.view self.new.store) → Gives (S.view self.old.store) (S.view self.new.store) (self.old.row ∷ [])) }
+        ensures next { OnOk result
+            (IsClean (S.view self.new.store)
+            → Gives (S.view self.old.store) (S.view self.new.store) (self.old.row ∷ [])) }
         ensures live { OnOk result (IsSome ((S.view self.new.store).cursors 0)) }
         ensures keeps { Keeps S.view S.recovers self.old.store self.new.store }
     {
@@ -106,7 +112,8 @@ impl<S: Store + Drop> Tables<S> {
     /// Errors: `Corrupt` if it has one.
     fn expect_end(&mut self) -> Result<(), StoreError>
         requires { IsSome ((S.view self.old.store).cursors 0) }
-        ensures end { OnOk result (IsClean (S.view self.new.store) → Ends (S.view self.old.store) (S.view self.new.store)) }
+        ensures end { OnOk result
+            (IsClean (S.view self.new.store) → Ends (S.view self.old.store) (S.view self.new.store)) }
         ensures keeps { Keeps S.view S.recovers self.old.store self.new.store }
     {
         if self.store.next(0, &mut self.found)? {
@@ -126,7 +133,8 @@ impl<S: Store + Drop> Tables<S> {
         slot: u32,
     ) -> Result<(), StoreError>
         requires { IsSome ((S.view self.old.store).cursors 0) }
-        ensures next { OnOk result (IsClean (S.view self.new.store) → Gives (S.view self.old.store) (S.view self.new.store)
+        ensures next { OnOk result
+            (IsClean (S.view self.new.store) → Gives (S.view self.old.store) (S.view self.new.store)
             (rows_of (columns_in V.columns tree) slot (entry_at source.now.kept.accepted slot))) }
         ensures live { OnOk result (IsSome ((S.view self.new.store).cursors 0)) }
         ensures keeps { Keeps S.view S.recovers self.old.store self.new.store }
@@ -148,7 +156,8 @@ impl<S: Store + Drop> Tables<S> {
     ) -> Result<(), StoreError>
         ensures says { OnOk result (IsClean (S.view self.new.store) →
             (S.view self.old.store).trees (number_of tree) ≡ rows_from (columns_in V.columns tree) 0 source.now.kept.accepted) }
-        ensures same { OnOk result (IsClean (S.view self.new.store) → Reads (S.view self.old.store) (S.view self.new.store)) }
+        ensures same { OnOk result
+            (IsClean (S.view self.new.store) → Reads (S.view self.old.store) (S.view self.new.store)) }
         ensures keeps { Keeps S.view S.recovers self.old.store self.new.store }
     {
         self.begin(tree.number())?;
@@ -162,8 +171,11 @@ impl<S: Store + Drop> Tables<S> {
     ///
     /// Errors: `Corrupt` if it has not.
     fn check_node(&mut self, promise: Ballot, round: u64, changes: u64) -> Result<(), StoreError>
-        ensures says { OnOk result (IsClean (S.view self.new.store) → (S.view self.old.store).trees NODE ≡ node_row_of promise round changes ∷ []) }
-        ensures same { OnOk result (IsClean (S.view self.new.store) → Reads (S.view self.old.store) (S.view self.new.store)) }
+        ensures says { OnOk result
+            (IsClean (S.view self.new.store)
+            → (S.view self.old.store).trees NODE ≡ node_row_of promise round changes ∷ []) }
+        ensures same { OnOk result
+            (IsClean (S.view self.new.store) → Reads (S.view self.old.store) (S.view self.new.store)) }
         ensures keeps { Keeps S.view S.recovers self.old.store self.new.store }
     {
         self.begin(NODE)?;
@@ -180,8 +192,11 @@ impl<S: Store + Drop> Tables<S> {
         source: &Record<V>,
         changes: u64,
     ) -> Result<(), StoreError>
-        ensures says { OnOk result (IsClean (S.view self.new.store) → Says V.columns (S.view self.old.store).trees record { kept = source.now.kept; changes = changes }) }
-        ensures same { OnOk result (IsClean (S.view self.new.store) → Reads (S.view self.old.store) (S.view self.new.store)) }
+        ensures says { OnOk result
+            (IsClean (S.view self.new.store)
+            → Says V.columns (S.view self.old.store).trees record { kept = source.now.kept; changes = changes }) }
+        ensures same { OnOk result
+            (IsClean (S.view self.new.store) → Reads (S.view self.old.store) (S.view self.new.store)) }
         ensures keeps { Keeps S.view S.recovers self.old.store self.new.store }
     {
         self.check_tree(SlotTree::Accepted, source)?;
@@ -196,7 +211,9 @@ impl<S: Store + Drop> Tables<S> {
         entry: &AcceptedEntry<V>,
     ) -> Result<(), StoreError>
         requires { IsClean (S.view self.old.store) → HasTrees (S.view self.old.store) }
-        ensures put { OnOk result (IsClean (S.view self.new.store) → PutsEntry V.columns (S.view self.old.store) (S.view self.new.store) slot entry.now) }
+        ensures put { OnOk result
+            (IsClean (S.view self.new.store)
+            → PutsEntry V.columns (S.view self.old.store) (S.view self.new.store) slot entry.now) }
         ensures keeps { Keeps S.view S.recovers self.old.store self.new.store }
     {
         SlotTree::Accepted.write(self.alloc, &mut self.row, slot, entry)?;
@@ -208,7 +225,9 @@ impl<S: Store + Drop> Tables<S> {
     /// Puts the row of the node.
     pub fn put_node(&mut self, promise: Ballot, round: u64, changes: u64) -> Result<(), StoreError>
         requires { IsClean (S.view self.old.store) → HasTrees (S.view self.old.store) }
-        ensures put { OnOk result (IsClean (S.view self.new.store) → PutsNode (S.view self.old.store) (S.view self.new.store) (node_row_of promise round changes)) }
+        ensures put { OnOk result
+            (IsClean (S.view self.new.store)
+            → PutsNode (S.view self.old.store) (S.view self.new.store) (node_row_of promise round changes)) }
         ensures keeps { Keeps S.view S.recovers self.old.store self.new.store }
     {
         write_node(&mut self.row, promise, round, changes)?;
@@ -224,7 +243,8 @@ impl<S: Store + Drop> Tables<S> {
 
     /// Commits what was written.
     pub fn commit(&mut self) -> Result<(), StoreError>
-        ensures committed { OnOk result (IsClean (S.view self.new.store) → IsCommitted (S.view self.old.store) (S.view self.new.store)) }
+        ensures committed { OnOk result
+            (IsClean (S.view self.new.store) → IsCommitted (S.view self.old.store) (S.view self.new.store)) }
         ensures keeps { KeepsTrees (S.view self.old.store) (S.view self.new.store) }
         ensures crash { LeavesTrees S.view S.recovers self.old.store self.new.store }
     {

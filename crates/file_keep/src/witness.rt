@@ -57,7 +57,8 @@ impl<V: StoredValue, S: Store + Drop, W: Witness> WitnessedKeep<V, S, W> {
         ensures whole { IfOk result (λ keep. W.noted witness ≤ keep.keep.content.changes) }
         ensures durable { IfOk result (λ keep. IsDurable S.view S.recovers V.columns keep.keep) }
         ensures failures { IfOk result (λ keep. keep.keep.failures ≡ 0) }
-        ensures crash { IfOk result (λ keep. LeavesOr S.view S.recovers V.columns store keep.keep.store keep.keep.content) }
+        ensures crash { IfOk result
+            (λ keep. LeavesOr S.view S.recovers V.columns store keep.keep.store keep.keep.content) }
     {
         let keep = FileKeep::open(alloc, store)?;
         if keep.changes() < witness.count() {
@@ -75,13 +76,19 @@ impl<V: StoredValue, S: Store + Drop, W: Witness> Keep<V> for WitnessedKeep<V, S
     /// Stores one change, as `FileKeep` does, and then notes how many there are.
     fn store(&mut self, change: &Change<V>) -> Result<(), Failed>
         ensures stored { OnOk result (self.new.keep.content.kept ≡ changed self.old.keep.content.kept change.now) }
-        ensures failed { OnErr result ((self.new.keep.content.kept ≡ self.old.keep.content.kept) ⊎ (self.new.keep.content.kept ≡ changed self.old.keep.content.kept change.now)) }
-        ensures counted { self.new.keep.failures ≡ (if is_ok result then self.old.keep.failures else self.old.keep.failures + 1) }
-        ensures noted { OnOk result ((self.new.noted ≡ self.old.noted) ⊎ (self.new.noted ≡ self.new.keep.content.changes)) }
+        ensures failed { OnErr result
+            ((self.new.keep.content.kept ≡ self.old.keep.content.kept)
+            ⊎ (self.new.keep.content.kept ≡ changed self.old.keep.content.kept change.now)) }
+        ensures counted { self.new.keep.failures
+            ≡ (if is_ok result then self.old.keep.failures else self.old.keep.failures + 1) }
+        ensures noted { OnOk result
+            ((self.new.noted ≡ self.old.noted) ⊎ (self.new.noted ≡ self.new.keep.content.changes)) }
         ensures unnoted { OnErr result (self.new.noted ≡ self.old.noted) }
         ensures durable { OnOk result (IsDurable S.view S.recovers V.columns self.new.keep) }
         ensures changed { OnOk result (self.new.keep.content ≡ with_change self.old.keep.content change.now) }
-        ensures either { OnErr result ((self.new.keep.content ≡ self.old.keep.content) ⊎ (self.new.keep.content ≡ with_change self.old.keep.content change.now)) }
+        ensures either { OnErr result
+            ((self.new.keep.content ≡ self.old.keep.content)
+            ⊎ (self.new.keep.content ≡ with_change self.old.keep.content change.now)) }
         ensures crash { LeavesEither S.view S.recovers V.columns self.old.keep.store self.new.keep.store self.old.keep.content self.new.keep.content }
     {
         self.keep.store(change)?;
@@ -93,9 +100,11 @@ impl<V: StoredValue, S: Store + Drop, W: Witness> Keep<V> for WitnessedKeep<V, S
     fn load(&mut self) -> Result<Record<V>, Failed>
         ensures loaded { IfOk result (λ loaded. loaded.kept ≡ self.old.keep.content.kept) }
         ensures same { self.new.keep.content.kept ≡ self.old.keep.content.kept }
-        ensures counted { self.new.keep.failures ≡ (if is_ok result then self.old.keep.failures else self.old.keep.failures + 1) }
+        ensures counted { self.new.keep.failures
+            ≡ (if is_ok result then self.old.keep.failures else self.old.keep.failures + 1) }
         ensures noted { self.new.noted ≡ self.old.noted }
-        ensures found { IfOk result (λ loaded. IsClean (S.view self.new.keep.store) → Says V.columns (S.view self.new.keep.store).committed
+        ensures found { IfOk result
+            (λ loaded. IsClean (S.view self.new.keep.store) → Says V.columns (S.view self.new.keep.store).committed
             (record { kept = loaded.kept; changes = self.new.keep.content.changes })) }
         ensures durable { OnOk result (IsDurable S.view S.recovers V.columns self.new.keep) }
         ensures content { self.new.keep.content ≡ self.old.keep.content }

@@ -1,8 +1,10 @@
 //! Keeps track of the active `$e` that have a pattern.
-ghost use Rattle.std.specs.Prelude.{◌≡◌, ◌↔◌, ◌+◌, ◌++◌, ◌∷◌, [], ◌<◌, ◌≤◌, ℕ, length, take, IsFalse, IsTrue, OnOk, Some};
+ghost use Rattle.std.specs.Prelude.{◌≡◌, ◌↔◌, ◌+◌, ◌++◌, ◌∷◌, [], ◌<◌, ◌≤◌, ℕ, length, take};
+ghost use Rattle.std.specs.Prelude.{IsFalse, IsTrue, OnOk, Some};
 ghost use Rattle.mm_read.specs.Statements.{Database};
 ghost use Rattle.scope.specs.Active.{stmt_at};
-ghost use Rattle.finding.specs.Essentials.{AreMatchingEssentials, IsTrimmedLength, IsActiveHypothesis};
+ghost use Rattle.finding.specs.Essentials.{AreMatchingEssentials, IsTrimmedLength};
+ghost use Rattle.finding.specs.Essentials.{IsActiveHypothesis};
 
 use crate::Pattern;
 use crate::expressions::{essential_expr, has_pattern};

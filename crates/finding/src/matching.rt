@@ -5,7 +5,8 @@
 //! it, so no other index is tried.
 ghost use Rattle.std.specs.Prelude.{◌≡◌, ◌↔◌, ◌+◌, ◌≤◌, IfSome, IsTrue, map, length};
 ghost use Rattle.finding.specs.Matches.{Matches};
-ghost use Rattle.finding.specs.Segments.{part_view, is_any_sequence, segment_len, matches_symbol, matches_prefix, IsFirstMatch};
+ghost use Rattle.finding.specs.Segments.{part_view, is_any_sequence, segment_len, matches_symbol};
+ghost use Rattle.finding.specs.Segments.{matches_prefix, IsFirstMatch};
 
 use crate::part::Part;
 

@@ -1,5 +1,6 @@
 //! Splits a text into words, and turns words into parts of a pattern.
-ghost use Rattle.std.specs.Prelude.{◌≡◌, ◌<◌, ◌≤◌, [], ◌∷◌, map, IfOk, IfSome, MatchOption, length, option_map};
+ghost use Rattle.std.specs.Prelude.{◌≡◌, ◌<◌, ◌≤◌, [], ◌∷◌, map, IfOk, IfSome, MatchOption, length};
+ghost use Rattle.std.specs.Prelude.{option_map};
 ghost use Rattle.std.specs.List.{find, list_any};
 ghost use Rattle.mm_lex.specs.Alphabet.{has_byte};
 ghost use Rattle.finding.specs.PatternWords.{words_in, words_after};

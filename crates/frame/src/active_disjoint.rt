@@ -1,6 +1,9 @@
 //! Images that are disjoint by the `$d` active at a position.
 ghost use Rattle.std.specs.Prelude.{◌≡◌, ◌==◌, length};
-ghost use Rattle.{std.specs.List.list_any, names.specs.Codes.decode, frame.specs.Below.AreBelow, frame.specs.Disjoint.are_disjoint};
+ghost use Rattle.std.specs.List.{list_any};
+ghost use Rattle.names.specs.Codes.{decode};
+ghost use Rattle.frame.specs.Below.{AreBelow};
+ghost use Rattle.frame.specs.Disjoint.{are_disjoint};
 
 use crate::pairs::Pairs;
 
@@ -14,7 +17,8 @@ impl<'a> Pairs<'a> {
     pub fn are_disjoint(&self, left: &[u32], right: &[u32]) -> bool
         requires left { AreBelow (length self.now.names) left.now }
         requires right { AreBelow (length self.now.names) right.now }
-        ensures { result ≡ are_disjoint self.now.statements (decode self.now.names left.now) (decode self.now.names right.now) }
+        ensures { result ≡ are_disjoint self.now.statements (decode self.now.names left.now)
+            (decode self.now.names right.now) }
     {
         for i in 0..left.len() {
             let x = left[i];

@@ -1,8 +1,27 @@
 //! Makes the parts that are kept with a statement: its hypotheses, each as one number, and its
 //! mandatory pairs.
-ghost use Rattle.std.specs.Prelude.{◌≡◌, ℕ, List, ◌+◌, ◌-◌, ◌≤◌, ◌==◌, ◌||◌, [], true, length, map, take, IfOk, OnOk};
+ghost use Rattle.std.specs.Prelude.{◌≡◌, ℕ, List, ◌+◌, ◌-◌, ◌≤◌, ◌==◌, ◌||◌, [], true, length, map};
+ghost use Rattle.std.specs.Prelude.{take, IfOk, OnOk};
 ghost use Rattle.mm_read.specs.declared.stmt.Stmt.{Stmt as Statement};
-ghost use Rattle.{names.specs.Codes.decode, names.specs.Codes.with_names, scope.specs.Active.expr_of, scope.specs.Active.bare, scope.specs.Stored.SymbolNumbers.AreRecorded, scope.specs.Symbols.symbols_declared_by, scope.specs.Symbols.symbols_in, entries.specs.Hypotheses.decoded_hypothesis, entries.specs.Stored.Spans.cut, entries.specs.Stored.Spans.AreSpansIn, frame.specs.Below.AreBelow, frame.specs.AssertionView.typecode_of, frame.specs.Stored.Whole.AreStored, frame.specs.Stored.Whole.ArePartsFor, frame.specs.Stored.Hypotheses.AreHypotheses, frame.specs.Stored.Hypotheses.IsFilledFrom, frame.specs.Stored.Counts.HasTwoSymbolsIfFloat, frame.specs.Stored.Counts.kind_of, frame.specs.Stored.AssertionParts.hypothesis_at, frame.specs.Stored.AssertionParts.hypothesis_by, frame.specs.Stored.AssertionParts.typecode_at, frame.specs.Stored.AssertionParts.is_typed, frame.specs.Stored.AssertionParts.is_typed_by, frame.specs.Stored.AssertionParts.with_list, frame.specs.MandatoryPairs.AreReordered, frame.specs.MandatoryPairs.pairs_by, frame.specs.ListsOfPairs.is_numbered_pair, std.specs.List.list_any, frame.specs.Stored.AssertionParts.has_parts, frame.specs.Stored.EntryMeanings.names_in, frame.specs.Stored.EntryMeanings.statements_of, frame.specs.FrameOf.hypotheses, frame.specs.Stored.OneFrame.mandatory_positions};
+ghost use Rattle.names.specs.Codes.{decode, with_names};
+ghost use Rattle.scope.specs.Active.{expr_of, bare};
+ghost use Rattle.scope.specs.Stored.SymbolNumbers.{AreRecorded};
+ghost use Rattle.scope.specs.Symbols.{symbols_declared_by, symbols_in};
+ghost use Rattle.entries.specs.Hypotheses.{decoded_hypothesis};
+ghost use Rattle.entries.specs.Stored.Spans.{cut, AreSpansIn};
+ghost use Rattle.frame.specs.Below.{AreBelow};
+ghost use Rattle.frame.specs.AssertionView.{typecode_of};
+ghost use Rattle.frame.specs.Stored.Whole.{AreStored, ArePartsFor};
+ghost use Rattle.frame.specs.Stored.Hypotheses.{AreHypotheses, IsFilledFrom};
+ghost use Rattle.frame.specs.Stored.Counts.{HasTwoSymbolsIfFloat, kind_of};
+ghost use Rattle.frame.specs.Stored.AssertionParts.{hypothesis_at, hypothesis_by, typecode_at};
+ghost use Rattle.frame.specs.Stored.AssertionParts.{is_typed, is_typed_by, with_list, has_parts};
+ghost use Rattle.frame.specs.MandatoryPairs.{AreReordered, pairs_by};
+ghost use Rattle.frame.specs.ListsOfPairs.{is_numbered_pair};
+ghost use Rattle.std.specs.List.{list_any};
+ghost use Rattle.frame.specs.Stored.EntryMeanings.{names_in, statements_of};
+ghost use Rattle.frame.specs.FrameOf.{hypotheses};
+ghost use Rattle.frame.specs.Stored.OneFrame.{mandatory_positions};
 
 use crate::frame_buffers::FrameBuffers;
 use crate::mandatory::{add_essentials, find_floats};
@@ -49,7 +68,9 @@ pub fn encode_hypotheses(
     requires hypotheses { AreHypotheses storage.now.entries hypotheses.now }
     requires no_numbered_hypotheses { map decoded_hypothesis numbered_hypotheses.old.items ≡ [] }
     requires no_typecodes { typecodes.old.items ≡ [] }
-    ensures numbered_hypotheses { OnOk result (map decoded_hypothesis numbered_hypotheses.new.items ≡ map (hypothesis_at storage.now.entries) hypotheses.now) }
+    ensures numbered_hypotheses { OnOk result
+        (map decoded_hypothesis numbered_hypotheses.new.items
+        ≡ map (hypothesis_at storage.now.entries) hypotheses.now) }
     ensures typecodes { OnOk result (typecodes.new.items ≡ map (typecode_at storage.now.entries) hypotheses.now) }
 {
     for position in hypotheses {
@@ -74,7 +95,10 @@ fn add_pairs(
     requires below { AreBelow (length pairs.now.names) pair_buffer.old.variables }
     requires empty { cut grouped_variables.old.items groups.old.items ≡ [] }
     requires within { AreSpansIn (length grouped_variables.old.items) groups.old.items }
-    ensures added { IfOk result (λ ok. ok ≡ true → AreReordered (pairs_by (is_numbered_pair pairs.now) pair_buffer.old.variables) (cut grouped_variables.new.items groups.new.items)) }
+    ensures added { IfOk result
+        (λ ok. ok ≡ true
+        → AreReordered (pairs_by (is_numbered_pair pairs.now) pair_buffer.old.variables)
+        (cut grouped_variables.new.items groups.new.items)) }
     ensures within { AreSpansIn (length grouped_variables.new.items) groups.new.items }
 {
     for index in 0..pair_buffer.len() {
@@ -96,7 +120,9 @@ fn add_list(
     groups: &mut Vec<BufferPart>,
 ) -> Result<(), AllocError>
     requires within { AreSpansIn (length grouped_variables.old.items) groups.old.items }
-    ensures added { OnOk result (cut grouped_variables.new.items groups.new.items ≡ with_list list.now (cut grouped_variables.old.items groups.old.items)) }
+    ensures added { OnOk result
+        (cut grouped_variables.new.items groups.new.items
+        ≡ with_list list.now (cut grouped_variables.old.items groups.old.items)) }
     ensures within { AreSpansIn (length grouped_variables.new.items) groups.new.items }
 {
     if list.len() < 2 {
@@ -118,8 +144,12 @@ fn fill_whole(storage: &Storage, at: usize, buffers: &mut FrameBuffers) -> Resul
     requires stored { AreStored storage.now }
     requires place { (1 ≤ at) × (at ≤ length (statements_of storage.now) + 1) }
     requires hypotheses { AreHypotheses storage.now.entries buffers.old.hypotheses }
-    requires undescribed { (buffers.old.numbered_hypotheses ≡ []) × (buffers.old.typecodes ≡ []) × (buffers.old.groups ≡ []) }
-    ensures { IfOk result (λ whole. whole ≡ true → IsFilledFrom storage.now.entries (take (at - 1) (statements_of storage.now)) buffers.old.hypotheses buffers.new) }
+    requires undescribed { (buffers.old.numbered_hypotheses ≡ []) × (buffers.old.typecodes ≡ [])
+        × (buffers.old.groups ≡ []) }
+    ensures { IfOk result
+        (λ whole. whole ≡ true
+        → IsFilledFrom storage.now.entries
+        (take (at - 1) (statements_of storage.now)) buffers.old.hypotheses buffers.new) }
 {
     if buffers.hypotheses.len() > MAX_KEPT {
         return Ok(false);
@@ -155,7 +185,8 @@ pub fn fill_parts(
     recorded: &SymbolNumbers,
 ) -> Result<(), AllocError>
     requires stored { AreStored storage.now }
-    requires recorded { AreRecorded (with_names (names_in storage.now) (symbols_declared_by stmt.now)) (symbols_in stmt.now) recorded.now }
+    requires recorded { AreRecorded (with_names (names_in storage.now) (symbols_declared_by stmt.now))
+        (symbols_in stmt.now) recorded.now }
     ensures { OnOk result (ArePartsFor storage.now (bare stmt.now) buffers.new) }
 {
     buffers.clear();
@@ -191,7 +222,8 @@ pub fn fill_parts(
 fn fill_own(storage: &Storage, buffers: &mut FrameBuffers, codes: &[u32]) -> Result<(), AllocError>
     requires stored { AreStored storage.now }
     requires codes { AreBelow (length (names_in storage.now)) codes.now }
-    ensures { (s : Statement) → decode (names_in storage.now) codes.now ≡ expr_of s → OnOk result (ArePartsFor storage.now s buffers.new) }
+    ensures { (s : Statement) → decode (names_in storage.now) codes.now ≡ expr_of s
+        → OnOk result (ArePartsFor storage.now s buffers.new) }
 {
     buffers.clear();
     find_floats(

@@ -1,6 +1,11 @@
 //! Finds what is active at a position.
 ghost use Rattle.std.specs.Prelude.{◌≡◌, ◌+◌, ◌-◌, ◌<◌, ◌≤◌, length, take, slice_get};
-ghost use Rattle.{scope.specs.Active.is_active, frame.specs.LastActive.last_active_of, frame.specs.Stored.Whole.AreStored, frame.specs.Stored.EntryMeanings.statements_of, frame.specs.Stored.Counts.IsPlain, frame.specs.Stored.Ends.is_open_at};
+ghost use Rattle.scope.specs.Active.{is_active};
+ghost use Rattle.frame.specs.LastActive.{last_active_of};
+ghost use Rattle.frame.specs.Stored.Whole.{AreStored};
+ghost use Rattle.frame.specs.Stored.EntryMeanings.{statements_of};
+ghost use Rattle.frame.specs.Stored.Counts.{IsPlain};
+ghost use Rattle.frame.specs.Stored.Ends.{is_open_at};
 
 use crate::storage::Storage;
 use entries::LastActive;

@@ -2,7 +2,20 @@
 //! for one more statement. Undoes the changes of last `$f` and of ends of blocks; `extend` undoes
 //! the others.
 ghost use Rattle.std.specs.Prelude.{◌≡◌, ℕ, ◌+◌, ◌≤◌, ◌++◌, ◌∷◌, [], length, OnOk, take};
-ghost use Rattle.{mm_read.specs.declared.stmt.Stmt.Stmt as Statement, scope.specs.Active.label_of, scope.specs.Declares.IsRecordedBy, scope.specs.Declares.MayDeclare, scope.specs.Declares.declared_with, entries.specs.Stored.Spans.Extends, frame.specs.Below.AreBelow, frame.specs.LastActive.last_active_of, frame.specs.Stored.Whole.AreStored, frame.specs.Stored.EntryMeanings.option_position, frame.specs.Stored.EntryMeanings.statements_of, frame.specs.Stored.EntryMeanings.typed_by, frame.specs.Stored.EntryMeanings.option_float, frame.specs.Stored.EntryMeanings.AreTypedAt, frame.specs.Stored.EntryMeanings.Restores, frame.specs.Stored.EntryMeanings.IsBelowIfSome, frame.specs.Stored.EntryMeanings.AreGivenBy, frame.specs.Stored.EntryMeanings.replaced_of, frame.specs.Stored.EntryMeanings.last_float, frame.specs.Stored.Counts.HasMoreNames, frame.specs.Stored.Counts.HasRoom, frame.specs.Stored.Counts.kind_of, frame.specs.Stored.Counts.next_last_active, frame.specs.Stored.Counts.HasTwoSymbolsIfFloat, frame.specs.Stored.Ends.with_end, frame.specs.Stored.Ends.AreBlockEnds};
+ghost use Rattle.mm_read.specs.declared.stmt.Stmt.{Stmt as Statement};
+ghost use Rattle.scope.specs.Active.{label_of};
+ghost use Rattle.scope.specs.Declares.{IsRecordedBy, MayDeclare, declared_with};
+ghost use Rattle.entries.specs.Stored.Spans.{Extends};
+ghost use Rattle.frame.specs.Below.{AreBelow};
+ghost use Rattle.frame.specs.LastActive.{last_active_of};
+ghost use Rattle.frame.specs.Stored.Whole.{AreStored};
+ghost use Rattle.frame.specs.Stored.EntryMeanings.{option_position, statements_of, typed_by};
+ghost use Rattle.frame.specs.Stored.EntryMeanings.{option_float, AreTypedAt, Restores};
+ghost use Rattle.frame.specs.Stored.EntryMeanings.{IsBelowIfSome, AreGivenBy, replaced_of};
+ghost use Rattle.frame.specs.Stored.EntryMeanings.{last_float};
+ghost use Rattle.frame.specs.Stored.Counts.{HasMoreNames, HasRoom, kind_of, next_last_active};
+ghost use Rattle.frame.specs.Stored.Counts.{HasTwoSymbolsIfFloat};
+ghost use Rattle.frame.specs.Stored.Ends.{with_end, AreBlockEnds};
 
 use crate::at_position::last_active_at;
 use crate::shape::{has_label, kind};
@@ -31,7 +44,9 @@ pub fn declare_next(
     ensures grown { HasMoreNames storage.old storage.new }
     ensures room { OnOk result (HasRoom storage.new) }
     ensures numbering { OnOk result (storage.new.numbering ≡ declared_with storage.old.numbering stmt.now) }
-    ensures positions { OnOk result (storage.new.positions.items ≡ storage.old.positions.items ++ option_position (label_of stmt.now) (length storage.old.entries + 1) []) }
+    ensures positions { OnOk result
+        (storage.new.positions.items ≡ storage.old.positions.items
+        ++ option_position (label_of stmt.now) (length storage.old.entries + 1) []) }
     ensures recorded { OnOk result (IsRecordedBy storage.new.numbering stmt.now recorded.old recorded.new) }
 {
     declare_names(&mut storage.numbering, alloc, stmt, recorded)?;
@@ -103,7 +118,8 @@ pub fn record_replaced(
     replaced: &mut Vec<u32>,
 ) -> Result<(), AllocError>
     requires { IsBelowIfSome (length floats.now) typed }
-    ensures recorded { OnOk result ((x : ℕ → ℕ) → AreGivenBy floats.now x → replaced.new.items ≡ replaced.old.items ++ option_float x typed) }
+    ensures recorded { OnOk result
+        ((x : ℕ → ℕ) → AreGivenBy floats.now x → replaced.new.items ≡ replaced.old.items ++ option_float x typed) }
     ensures after { Extends replaced.old.items replaced.new.items }
 {
     if let Some(variable) = typed {

@@ -53,7 +53,9 @@ fn add_group(
     groups: &mut Vec<BufferPart>,
 ) -> Result<(), AllocError>
     requires within { AreSpansIn (length grouped_variables.old.items) groups.old.items }
-    ensures added { OnOk result (cut grouped_variables.new.items groups.new.items ≡ with_group variables.now codes.now (cut grouped_variables.old.items groups.old.items)) }
+    ensures added { OnOk result
+        (cut grouped_variables.new.items groups.new.items
+        ≡ with_group variables.now codes.now (cut grouped_variables.old.items groups.old.items)) }
     ensures within { AreSpansIn (length grouped_variables.new.items) groups.new.items }
 {
     let from = grouped_variables.len();
@@ -84,7 +86,9 @@ pub fn find_groups(
 ) -> Result<DisjointGroups, AllocError>
     requires stored { AreStored storage.now }
     requires place { (1 ≤ at) × (at ≤ length (statements_of storage.now) + 1) }
-    ensures { IfOk result (λ groups. groups ≡ groups_in variables.now (disjoint_symbols storage.now.entries (take (at - 1) (statements_of storage.now)))) }
+    ensures { IfOk result
+        (λ groups. groups
+        ≡ groups_in variables.now (disjoint_symbols storage.now.entries (take (at - 1) (statements_of storage.now)))) }
 {
     let mut grouped_variables = Vec::new(alloc);
     let mut groups = Vec::new(alloc);

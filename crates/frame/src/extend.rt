@@ -1,7 +1,18 @@
 //! Appends a statement to the storage as a whole or not at all, and truncates it to the first
 //! statements.
-ghost use Rattle.std.specs.Prelude.{true, ◌≡◌, ◌++◌, ◌∷◌, [], Some, OnOk, OnErr, take, length, ◌+◌, IfSome, IfErr};
-ghost use Rattle.{names.specs.Codes.with_names, scope.specs.Active.bare, scope.specs.Legal.IsLegal, scope.specs.Legal.broken_rule, scope.specs.Stored.SymbolNumbers.AreRecorded, scope.specs.Symbols.symbols_declared_by, scope.specs.Symbols.symbols_in, scope.specs.Symbols.symbols_of, entries.specs.Mentions.AreKeptUntil, entries.specs.Mentions.AreSame, entries.specs.Stored.Spans.Extends, frame.specs.Stored.Whole.AreStored, frame.specs.Stored.Counts.HasMoreAtEnd, frame.specs.Stored.EntryMeanings.HasVariableNumbers, frame.specs.Stored.EntryMeanings.labels_in, frame.specs.Stored.EntryMeanings.names_in, frame.specs.Stored.EntryMeanings.statements_of};
+ghost use Rattle.std.specs.Prelude.{true, ◌≡◌, ◌++◌, ◌∷◌, [], Some, OnOk, OnErr, take, length, ◌+◌};
+ghost use Rattle.std.specs.Prelude.{IfSome, IfErr};
+ghost use Rattle.names.specs.Codes.{with_names};
+ghost use Rattle.scope.specs.Active.{bare};
+ghost use Rattle.scope.specs.Legal.{IsLegal, broken_rule};
+ghost use Rattle.scope.specs.Stored.SymbolNumbers.{AreRecorded};
+ghost use Rattle.scope.specs.Symbols.{symbols_declared_by, symbols_in, symbols_of};
+ghost use Rattle.entries.specs.Mentions.{AreKeptUntil, AreSame};
+ghost use Rattle.entries.specs.Stored.Spans.{Extends};
+ghost use Rattle.frame.specs.Stored.Whole.{AreStored};
+ghost use Rattle.frame.specs.Stored.Counts.{HasMoreAtEnd};
+ghost use Rattle.frame.specs.Stored.EntryMeanings.{HasVariableNumbers, labels_in, names_in};
+ghost use Rattle.frame.specs.Stored.EntryMeanings.{statements_of};
 
 use crate::assertion_parts::fill_parts;
 use crate::declare::{
@@ -31,7 +42,8 @@ fn extend(
 ) -> Result<(), AllocError>
     requires stored { AreStored storage.old }
     requires legal { IsLegal (statements_of storage.old) stmt.now }
-    requires recorded { AreRecorded (with_names (names_in storage.old) (symbols_declared_by stmt.now)) (symbols_in stmt.now) recorded.old }
+    requires recorded { AreRecorded (with_names (names_in storage.old) (symbols_declared_by stmt.now))
+        (symbols_in stmt.now) recorded.old }
     ensures stored { OnOk result (AreStored storage.new) }
     ensures added { OnOk result (statements_of storage.new ≡ statements_of storage.old ++ bare stmt.now ∷ []) }
     ensures numbers { OnOk result (HasVariableNumbers storage.old stmt.now storage.new) }
@@ -93,7 +105,8 @@ fn extend_whole(
 ) -> Result<(), AllocError>
     requires stored { AreStored storage.old }
     requires legal { IsLegal (statements_of storage.old) stmt.now }
-    requires recorded { AreRecorded (with_names (names_in storage.old) (symbols_declared_by stmt.now)) (symbols_in stmt.now) recorded.old }
+    requires recorded { AreRecorded (with_names (names_in storage.old) (symbols_declared_by stmt.now))
+        (symbols_in stmt.now) recorded.old }
     ensures stored { AreStored storage.new }
     ensures added { OnOk result (statements_of storage.new ≡ statements_of storage.old ++ bare stmt.now ∷ []) }
     ensures numbers { OnOk result (HasVariableNumbers storage.old stmt.now storage.new) }
@@ -132,7 +145,8 @@ fn truncate_storage(storage: &mut Storage, len: usize)
 fn roll_back(storage: &mut Storage, names: usize, replaced: usize)
     ensures names { storage.new.numbering ≡ take names storage.old.numbering }
     ensures floats { storage.new.floats.items ≡ take (length (names_in storage.new)) storage.old.floats.items }
-    ensures positions { storage.new.positions.items ≡ take (length (labels_in storage.new)) storage.old.positions.items }
+    ensures positions { storage.new.positions.items
+        ≡ take (length (labels_in storage.new)) storage.old.positions.items }
     ensures replaced { storage.new.replaced.items ≡ take replaced storage.old.replaced.items }
     ensures ends { storage.new.ends.items ≡ take (length storage.old.entries) storage.old.ends.items }
     ensures entries { storage.new.entries ≡ storage.old.entries }

@@ -4,7 +4,8 @@ ghost use Rattle.std.specs.Prelude.{◌≡◌, ◌+◌, ◌<◌, ◌≤◌, ℕ,
 ghost use Rattle.entries.specs.Mentions.{IsLast, mentions_of, positions_of};
 ghost use Rattle.entries.specs.declared.mentions.Mention.{Mention as Mentioned};
 ghost use Rattle.frame.specs.Stored.EntryMeanings.{shapes_of};
-ghost use Rattle.frame.specs.Stored.MentionLists.{ArePlaced, IsListOf, active_with, is_entry_of, stands};
+ghost use Rattle.frame.specs.Stored.MentionLists.{ArePlaced, IsListOf, active_with, is_entry_of};
+ghost use Rattle.frame.specs.Stored.MentionLists.{stands};
 ghost use Rattle.frame.specs.Stored.Stacks.{kind_test};
 
 use crate::at_position::is_open_at;
@@ -45,7 +46,8 @@ fn is_found(
     at: usize,
 ) -> bool
     requires placed { ArePlaced entries.now ends.now }
-    requires place { (m : Mentioned) → IsLast stack.now m → (1 ≤ m.position) × (m.position < at) × (at ≤ length entries.now + 1) }
+    requires place { (m : Mentioned) → IsLast stack.now m → (1 ≤ m.position) × (m.position < at)
+        × (at ≤ length entries.now + 1) }
     ensures none { stack.now ≡ [] → result ≡ true }
     ensures last { (m : Mentioned) → IsLast stack.now m → result ≡ stands table (shapes_of entries.now) m.position at }
 {
@@ -67,7 +69,8 @@ pub fn first_active<'a>(
     at: usize,
 ) -> MentionStack<'a>
     requires placed { ArePlaced entries.now ends.now }
-    requires list { IsListOf (kind_test table) entries.now (shapes_of entries.now) code (mentions_of mentions.now code) }
+    requires list { IsListOf (kind_test table) entries.now (shapes_of entries.now) code
+        (mentions_of mentions.now code) }
     requires place { (1 ≤ at) × (at ≤ length entries.now + 1) }
     ensures active { positions_of result ≡ active_with table entries.now code at }
     ensures front { (n : ℕ) × (result ≡ take n (mentions_of mentions.now code)) }

@@ -1,6 +1,6 @@
 //! Buffers for the parts of an assertion, which are reused.
 ghost use Rattle.std.specs.Prelude.{◌≡◌, length, false};
-ghost use Rattle.{entries.specs.Entries.AreShapedParts, entries.specs.Entries.assertion_of, entries.specs.Entries.no_parts};
+ghost use Rattle.entries.specs.Entries.{AreShapedParts, assertion_of, no_parts};
 
 use crate::pair_buffer::PairBuffer;
 use entries::{AssertionParts, BufferPart};
@@ -35,7 +35,9 @@ pub struct FrameBuffers {
 
 impl Model for FrameBuffers {
     ghost use Rattle.std.specs.Prelude.{length, map};
-    ghost use Rattle.{entries.specs.Entries.Assertion, entries.specs.Hypotheses.decoded_hypothesis, entries.specs.Stored.Spans.cut, entries.specs.Stored.Spans.AreSpansIn};
+    ghost use Rattle.entries.specs.Entries.{Assertion};
+    ghost use Rattle.entries.specs.Hypotheses.{decoded_hypothesis};
+    ghost use Rattle.entries.specs.Stored.Spans.{cut, AreSpansIn};
 
     ghost Value = { Assertion };
 

@@ -1,6 +1,13 @@
 //! The statements of a database by position.
-ghost use Rattle.std.specs.Prelude.{◌≡◌, ◌≤◌, ◌<◌, [], true, IfOk, length, Some, option_map, OnOk, IfSome};
-ghost use Rattle.{mm_read.specs.declared.stmt.Stmt.Stmt as Statement, names.specs.Codes.name_at, names.specs.Codes.decode, scope.specs.Active.before, scope.specs.Active.stmt_at, scope.specs.Active.label_of, scope.specs.Active.expr_of, frame.specs.AtPosition.IsPosition, frame.specs.AtPosition.ArePositions, frame.specs.AtPosition.HasLegalProperties, frame.specs.AtPosition.IsMeaning, frame.specs.FrameOf.HasAssertion, frame.specs.FrameOf.hypotheses, frame.specs.AssertionView.AreBuffersOf, frame.specs.AssertionView.AreGroupsOf, frame.specs.AssertionView.IsViewOf, frame.specs.Below.AreBelow};
+ghost use Rattle.std.specs.Prelude.{◌≡◌, ◌≤◌, ◌<◌, [], true, IfOk, length, Some, option_map, OnOk};
+ghost use Rattle.std.specs.Prelude.{IfSome};
+ghost use Rattle.mm_read.specs.declared.stmt.Stmt.{Stmt as Statement};
+ghost use Rattle.names.specs.Codes.{name_at, decode};
+ghost use Rattle.scope.specs.Active.{before, stmt_at, label_of, expr_of};
+ghost use Rattle.frame.specs.AtPosition.{IsPosition, ArePositions, HasLegalProperties, IsMeaning};
+ghost use Rattle.frame.specs.FrameOf.{HasAssertion, hypotheses};
+ghost use Rattle.frame.specs.AssertionView.{AreBuffersOf, AreGroupsOf, IsViewOf};
+ghost use Rattle.frame.specs.Below.{AreBelow};
 
 use crate::assertion_parts::encode_hypotheses;
 use crate::at_position::is_active_at;
@@ -36,7 +43,9 @@ pub struct Frames {
 }
 
 impl Model for Frames {
-    ghost use Rattle.{frame.specs.Parts.Numbered, frame.specs.Stored.EntryMeanings.numbered, frame.specs.Stored.Whole.AreStored};
+    ghost use Rattle.frame.specs.Parts.{Numbered};
+    ghost use Rattle.frame.specs.Stored.EntryMeanings.{numbered};
+    ghost use Rattle.frame.specs.Stored.Whole.{AreStored};
 
     ghost Value = { Numbered };
 
@@ -121,7 +130,8 @@ impl Frames {
     /// Cost: a constant.
     pub fn expr(&self, at: usize) -> &[u32]
         requires { (1 ≤ at) × (at ≤ length self.now.statements) }
-        ensures same { (s : Statement) → stmt_at self.now.statements at ≡ Some s → decode self.now.names result.now ≡ expr_of s }
+        ensures same { (s : Statement) → stmt_at self.now.statements at ≡ Some s
+            → decode self.now.names result.now ≡ expr_of s }
         ensures codes { AreBelow (length self.now.names) result.now }
     {
         let entry = self.storage.entries.entry(at - 1);
@@ -183,7 +193,9 @@ impl Frames {
         buffers: &'a mut FrameBuffers,
     ) -> Result<AssertionView<'a>, AllocError>
         requires { (s : Statement) × HasAssertion self.now.statements a s }
-        ensures { IfOk result (λ view. (s : Statement) → stmt_at self.now.statements a ≡ Some s → IsViewOf self.now.statements self.now.names a s view) }
+        ensures { IfOk result
+            (λ view. (s : Statement) → stmt_at self.now.statements a ≡ Some s
+            → IsViewOf self.now.statements self.now.names a s view) }
     {
         if let Some(view) = self.whole_view(a) {
             return Ok(view);
@@ -196,7 +208,8 @@ impl Frames {
     #[inline(always)]
     fn whole_view(&self, a: usize) -> Option<AssertionView<'_>>
         requires { (s : Statement) × HasAssertion self.now.statements a s }
-        ensures { (s : Statement) → stmt_at self.now.statements a ≡ Some s → IfSome result (IsViewOf self.now.statements self.now.names a s) }
+        ensures { (s : Statement) → stmt_at self.now.statements a ≡ Some s
+            → IfSome result (IsViewOf self.now.statements self.now.names a s) }
     {
         self.storage.entries.whole_view(a - 1)
     }
@@ -221,7 +234,8 @@ impl Frames {
     fn buffered_view<'a>(&'a self, a: usize, buffers: &'a FrameBuffers) -> AssertionView<'a>
         requires assertion { (s : Statement) × HasAssertion self.now.statements a s }
         requires buffers { AreBuffersOf self.now.statements self.now.names a buffers.now }
-        ensures { (s : Statement) → stmt_at self.now.statements a ≡ Some s → IsViewOf self.now.statements self.now.names a s result }
+        ensures { (s : Statement) → stmt_at self.now.statements a ≡ Some s
+            → IsViewOf self.now.statements self.now.names a s result }
     {
         AssertionView {
             typecodes: &buffers.typecodes,
@@ -239,7 +253,9 @@ impl Frames {
     /// symbols of the active `$d`.
     pub fn groups(&self, a: usize) -> Result<DisjointGroups, AllocError>
         requires { (s : Statement) × HasAssertion self.now.statements a s }
-        ensures { IfOk result (λ groups. (s : Statement) → stmt_at self.now.statements a ≡ Some s → AreGroupsOf self.now.statements self.now.names a s groups) }
+        ensures { IfOk result
+            (λ groups. (s : Statement) → stmt_at self.now.statements a ≡ Some s
+            → AreGroupsOf self.now.statements self.now.names a s groups) }
     {
         let mut positions = Vec::new(self.alloc);
         self.mandatory(a, &mut positions)?;
@@ -259,7 +275,8 @@ impl Frames {
     pub fn mandatory(&self, a: usize, list: &mut Vec<u32>) -> Result<(), AllocError>
         requires assertion { (s : Statement) × HasAssertion self.now.statements a s }
         requires empty { list.old.items ≡ [] }
-        ensures listed { (s : Statement) → stmt_at self.now.statements a ≡ Some s → OnOk result (list.new.items ≡ hypotheses (before self.now.statements a) s) }
+        ensures listed { (s : Statement) → stmt_at self.now.statements a ≡ Some s
+            → OnOk result (list.new.items ≡ hypotheses (before self.now.statements a) s) }
         ensures legal { HasLegalProperties self.now.statements self.now.names }
     {
         list.extend_from_slice(self.storage.entries.hypotheses(a - 1))?;
@@ -275,7 +292,8 @@ impl Frames {
     /// Cost: a constant.
     pub fn label(&self, at: usize) -> Option<&[u8]>
         requires { (1 ≤ at) × (at ≤ length self.now.statements) }
-        ensures { (s : Statement) → stmt_at self.now.statements at ≡ Some s → option_map (λ r. r.now) result ≡ label_of s }
+        ensures { (s : Statement) → stmt_at self.now.statements at ≡ Some s
+            → option_map (λ r. r.now) result ≡ label_of s }
     {
         let entry = self.storage.entries.entry(at - 1);
         if has_label(entry.kind) {

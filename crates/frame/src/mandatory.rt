@@ -1,6 +1,10 @@
 //! Finds the mandatory hypotheses of an assertion by the symbols that it uses.
 ghost use Rattle.std.specs.Prelude.{◌≡◌, ◌+◌, ◌-◌, ◌≤◌, ◌<◌, ◌==◌, [], length, take, OnOk};
-ghost use Rattle.{frame.specs.Below.AreBelow, frame.specs.Stored.Whole.AreStored, frame.specs.Stored.Hypotheses.In, frame.specs.Stored.Hypotheses.ListsExactly, frame.specs.Stored.Hypotheses.HasMore, frame.specs.Stored.Hypotheses.IsFloatOf, frame.specs.Stored.Hypotheses.HasLookedUpFloats, frame.specs.Stored.Hypotheses.AreFloats, frame.specs.Stored.Hypotheses.AreWithEssentials, frame.specs.Stored.EntryMeanings.names_in, frame.specs.Stored.EntryMeanings.statements_of};
+ghost use Rattle.frame.specs.Below.{AreBelow};
+ghost use Rattle.frame.specs.Stored.Whole.{AreStored};
+ghost use Rattle.frame.specs.Stored.Hypotheses.{In, ListsExactly, HasMore, IsFloatOf};
+ghost use Rattle.frame.specs.Stored.Hypotheses.{HasLookedUpFloats, AreFloats, AreWithEssentials};
+ghost use Rattle.frame.specs.Stored.EntryMeanings.{names_in, statements_of};
 
 use crate::at_position::{is_active_at, last_active_at};
 use crate::storage::Storage;
@@ -25,9 +29,12 @@ fn add_float(
 ) -> Result<(), AllocError>
     requires stored { AreStored storage.now }
     requires code { code < length (names_in storage.now) }
-    requires looked_up { HasLookedUpFloats storage.now.entries (statements_of storage.now) looked_up.old list.old.items }
-    ensures more { OnOk result (HasMore (IsFloatOf storage.now.entries (statements_of storage.now) code) list.old.items list.new.items) }
-    ensures looked_up { OnOk result (HasLookedUpFloats storage.now.entries (statements_of storage.now) looked_up.new list.new.items) }
+    requires looked_up { HasLookedUpFloats storage.now.entries
+        (statements_of storage.now) looked_up.old list.old.items }
+    ensures more { OnOk result
+        (HasMore (IsFloatOf storage.now.entries (statements_of storage.now) code) list.old.items list.new.items) }
+    ensures looked_up { OnOk result
+        (HasLookedUpFloats storage.now.entries (statements_of storage.now) looked_up.new list.new.items) }
 {
     let float = storage.floats[code as usize];
     if float == 0 || looked_up.index_of(code).is_some() {
@@ -68,7 +75,9 @@ pub fn find_floats(
 pub fn add_essentials(storage: &Storage, at: usize, list: &mut Vec<u32>) -> Result<(), AllocError>
     requires stored { AreStored storage.now }
     requires place { (1 ≤ at) × (at ≤ length (statements_of storage.now) + 1) }
-    ensures { OnOk result (AreWithEssentials storage.now.entries (take (at - 1) (statements_of storage.now)) list.old.items list.new.items) }
+    ensures { OnOk result
+        (AreWithEssentials storage.now.entries
+        (take (at - 1) (statements_of storage.now)) list.old.items list.new.items) }
 {
     let mut essential = last_active_at(storage, at).essential;
     while essential != 0 {

@@ -1,10 +1,12 @@
 //! The mentions that the next statement appends to the tables of the `$d` and `$v`, which have the
 //! statements that mention each symbol.
-ghost use Rattle.std.specs.Prelude.{◌≡◌, ℕ, ◌+◌, ◌≤◌, ◌==◌, ◌∷◌, ◌++◌, [], true, false, length, OnOk};
+ghost use Rattle.std.specs.Prelude.{◌≡◌, ℕ, ◌+◌, ◌≤◌, ◌==◌, ◌∷◌, ◌++◌, [], true, false, length};
+ghost use Rattle.std.specs.Prelude.{OnOk};
 ghost use Rattle.std.specs.List.{list_any};
 ghost use Rattle.entries.specs.Entries.{Assertion, entry_by};
 ghost use Rattle.entries.specs.Mentions.{mentions_of};
-ghost use Rattle.frame.specs.Stored.MentionLists.{AreGrown, ArePlaced, IsLastActive, IsMentionedAt, IsTableOf};
+ghost use Rattle.frame.specs.Stored.MentionLists.{AreGrown, ArePlaced, IsLastActive, IsMentionedAt};
+ghost use Rattle.frame.specs.Stored.MentionLists.{IsTableOf};
 ghost use Rattle.frame.specs.Stored.Stacks.{KeepsUntil, last_by_kind, opening};
 
 use crate::first_active::{first_active, is_entry_of};
@@ -30,7 +32,8 @@ pub fn mention_next(
     requires placed { ArePlaced entries.now ends.now }
     requires last_active { IsLastActive entries.now header.now.before.last_active }
     requires table { IsTableOf table entries.now mentions.old }
-    ensures table { OnOk result ((a : Assertion) → IsTableOf table (entries.now ++ entry_by header.now codes.now a ∷ []) mentions.new) }
+    ensures table { OnOk result
+        ((a : Assertion) → IsTableOf table (entries.now ++ entry_by header.now codes.now a ∷ []) mentions.new) }
     ensures kept { KeepsUntil (length entries.now) mentions.old mentions.new }
 {
     if is_entry_of(table, header.kind) {
@@ -81,8 +84,11 @@ fn mention_each(
     requires grown { AreGrown table entries.now from mentions.old }
     ensures grown { AreGrown table entries.now from mentions.new }
     ensures kept { KeepsUntil (length entries.now) mentions.old mentions.new }
-    ensures others { (c : ℕ) → list_any (λ x. c == x) codes.now ≡ false → mentions_of mentions.new c ≡ mentions_of mentions.old c }
-    ensures mentioned { OnOk result (from ≡ length entries.now + 1 → (c : ℕ) → list_any (λ x. c == x) codes.now ≡ true → IsMentionedAt from (mentions_of mentions.new c)) }
+    ensures others { (c : ℕ) → list_any (λ x. c == x) codes.now ≡ false
+        → mentions_of mentions.new c ≡ mentions_of mentions.old c }
+    ensures mentioned { OnOk result
+        (from ≡ length entries.now + 1 → (c : ℕ) → list_any (λ x. c == x) codes.now ≡ true
+        → IsMentionedAt from (mentions_of mentions.new c)) }
 {
     for code in codes {
         mention(mentions, table, entries, ends, *code, from)?;
@@ -106,8 +112,10 @@ fn mention(
     ensures grown { AreGrown table entries.now from mentions.new }
     ensures kept { KeepsUntil (length entries.now) mentions.old mentions.new }
     ensures others { (c : ℕ) → (c == code) ≡ false → mentions_of mentions.new c ≡ mentions_of mentions.old c }
-    ensures longer { (c : ℕ) → IsMentionedAt (length entries.now + 1) (mentions_of mentions.old c) → IsMentionedAt (length entries.now + 1) (mentions_of mentions.new c) }
-    ensures mentioned { OnOk result (from ≡ length entries.now + 1 → IsMentionedAt from (mentions_of mentions.new code)) }
+    ensures longer { (c : ℕ) → IsMentionedAt (length entries.now + 1) (mentions_of mentions.old c)
+        → IsMentionedAt (length entries.now + 1) (mentions_of mentions.new c) }
+    ensures mentioned { OnOk result
+        (from ≡ length entries.now + 1 → IsMentionedAt from (mentions_of mentions.new code)) }
 {
     let position = entries.len() as u32 + 1;
     let beneath = first_active(entries, ends, mentions, table, code, from).count();

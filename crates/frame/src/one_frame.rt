@@ -1,6 +1,10 @@
 //! Collects the frame of one assertion from the active statements.
 ghost use Rattle.std.specs.Prelude.{◌≡◌, ◌||◌, IsTrue, OnOk, IfOk};
-ghost use Rattle.{mm_lex.specs.Alphabet.Name, mm_lex.specs.Alphabet.name_eq, mm_lex.specs.Alphabet.has_name, scope.specs.Active.is_assertion, scope.specs.Active.expr_of, frame.specs.FrameOf.frame_of, frame.specs.Stored.OneFrame.AreRecorded, frame.specs.Stored.OneFrame.AreMandatory, frame.specs.Stored.OneFrame.among, frame.specs.Stored.OneFrame.mandatory_positions, frame.specs.Stored.OneFrame.is_needed, frame.specs.Stored.OneFrame.groups_among};
+ghost use Rattle.mm_lex.specs.Alphabet.{Name, name_eq, has_name};
+ghost use Rattle.scope.specs.Active.{is_assertion, expr_of};
+ghost use Rattle.frame.specs.FrameOf.{frame_of};
+ghost use Rattle.frame.specs.Stored.OneFrame.{AreRecorded, AreMandatory, among};
+ghost use Rattle.frame.specs.Stored.OneFrame.{mandatory_positions, is_needed, groups_among};
 
 use crate::assertion::Frame;
 use mm_lex::Words;

@@ -1,7 +1,8 @@
 //! The mandatory pairs of an assertion, one variable at a time.
 ghost use Rattle.std.specs.Prelude.{◌≡◌, ◌<◌, [], length, take, OnOk};
 ghost use Rattle.frame.specs.Below.{AreBelow};
-ghost use Rattle.frame.specs.MandatoryPairs.{float_variables, has_number, with_number, IsEachOnce, IsPairList};
+ghost use Rattle.frame.specs.MandatoryPairs.{float_variables, has_number, with_number, IsEachOnce};
+ghost use Rattle.frame.specs.MandatoryPairs.{IsPairList};
 ghost use Rattle.frame.specs.Stored.PairLists.{AddsBefore};
 
 use crate::pairs::Pairs;

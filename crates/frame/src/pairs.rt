@@ -1,6 +1,18 @@
 //! The disjoint variables at a position.
-ghost use Rattle.std.specs.Prelude.{◌≡◌, ◌==◌, ◌&&◌, ◌+◌, ◌-◌, ◌<◌, ◌≤◌, ℕ, not, false, length, take, IfNone, IfSome};
-ghost use Rattle.{std.specs.List.list_any, mm_lex.specs.Alphabet.Name, names.specs.Codes.name_at, names.specs.Codes.code_of, scope.specs.Active.is_variable, frame.specs.Below.AllBelow, frame.specs.Below.AreBelow, frame.specs.FrameOf.is_pair, entries.specs.Mentions.positions_of, frame.specs.LastActive.actives, frame.specs.LastActive.is_disj, frame.specs.ListsOfPairs.AreListsOfPairs, frame.specs.ListsOfPairs.ArePairsWith, frame.specs.ListsOfPairs.is_numbered_pair, frame.specs.Stored.EntryMeanings.statements_of, frame.specs.Stored.Stacks.AreOfKind, frame.specs.Stored.Stacks.IsOfKind, frame.specs.Stored.Stacks.has_code, frame.specs.Stored.Stacks.positions_with, frame.specs.Stored.Whole.AreStored};
+ghost use Rattle.std.specs.Prelude.{◌≡◌, ◌==◌, ◌&&◌, ◌+◌, ◌-◌, ◌<◌, ◌≤◌, ℕ, not, false, length};
+ghost use Rattle.std.specs.Prelude.{take, IfNone, IfSome};
+ghost use Rattle.std.specs.List.{list_any};
+ghost use Rattle.mm_lex.specs.Alphabet.{Name};
+ghost use Rattle.names.specs.Codes.{name_at, code_of};
+ghost use Rattle.scope.specs.Active.{is_variable};
+ghost use Rattle.frame.specs.Below.{AllBelow, AreBelow};
+ghost use Rattle.frame.specs.FrameOf.{is_pair};
+ghost use Rattle.entries.specs.Mentions.{positions_of};
+ghost use Rattle.frame.specs.LastActive.{actives, is_disj};
+ghost use Rattle.frame.specs.ListsOfPairs.{AreListsOfPairs, ArePairsWith, is_numbered_pair};
+ghost use Rattle.frame.specs.Stored.EntryMeanings.{statements_of};
+ghost use Rattle.frame.specs.Stored.Stacks.{AreOfKind, IsOfKind, has_code, positions_with};
+ghost use Rattle.frame.specs.Stored.Whole.{AreStored};
 
 use crate::at_position::last_active_at;
 use crate::disjoints_with::DisjointsWith;
@@ -23,7 +35,11 @@ pub struct Pairs<'a> {
 
 impl<'a> Model for Pairs<'a> {
     ghost use Rattle.std.specs.Prelude.{◌+◌, ◌≤◌, length};
-    ghost use Rattle.{names.specs.Codes.AreDistinct, scope.specs.Active.before, frame.specs.Parts.Numbered, frame.specs.Stored.EntryMeanings.names_in, frame.specs.Stored.EntryMeanings.statements_of, frame.specs.Stored.Whole.AreStored};
+    ghost use Rattle.names.specs.Codes.{AreDistinct};
+    ghost use Rattle.scope.specs.Active.{before};
+    ghost use Rattle.frame.specs.Parts.{Numbered};
+    ghost use Rattle.frame.specs.Stored.EntryMeanings.{names_in, statements_of};
+    ghost use Rattle.frame.specs.Stored.Whole.{AreStored};
 
     ghost Value = { Numbered };
 
@@ -54,7 +70,8 @@ impl<'a> Pairs<'a> {
     /// Cost: a binary search.
     pub fn disjoints_with(&self, x: u32) -> DisjointsWith<'a>
         requires { x < length self.now.names }
-        ensures pairs { (y : ℕ) → y < length self.now.names → is_numbered_pair self.now x y ≡ (not (x == y) && list_any (λ list. list_any (λ c. y == c) list) result) }
+        ensures pairs { (y : ℕ) → y < length self.now.names
+            → is_numbered_pair self.now x y ≡ (not (x == y) && list_any (λ list. list_any (λ c. y == c) list) result) }
         ensures together { AreListsOfPairs self.now result }
         ensures below { AllBelow (length self.now.names) result }
     {
@@ -125,7 +142,8 @@ impl<'a> Pairs<'a> {
 fn active_disjoints(storage: &Storage, code: u32, at: usize) -> MentionStack<'_>
     requires stored { AreStored storage.now }
     requires place { (1 ≤ at) × (at ≤ length (statements_of storage.now) + 1) }
-    ensures { positions_of result ≡ positions_with storage.now.entries code (actives is_disj (take (at - 1) (statements_of storage.now))) }
+    ensures { positions_of result
+        ≡ positions_with storage.now.entries code (actives is_disj (take (at - 1) (statements_of storage.now))) }
 {
     first_active(
         &storage.entries,

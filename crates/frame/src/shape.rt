@@ -1,6 +1,9 @@
 //! Properties of the shape of a statement.
 ghost use Rattle.std.specs.Prelude.{◌≡◌};
-ghost use Rattle.{scope.specs.Active.bare, scope.specs.Active.is_assertion, scope.specs.Active.is_essential, frame.specs.Stored.AssertionParts.has_parts, frame.specs.Stored.Counts.kind_of, frame.specs.Stored.Labels.is_labelled_kind};
+ghost use Rattle.scope.specs.Active.{bare, is_assertion, is_essential};
+ghost use Rattle.frame.specs.Stored.AssertionParts.{has_parts};
+ghost use Rattle.frame.specs.Stored.Counts.{kind_of};
+ghost use Rattle.frame.specs.Stored.Labels.{is_labelled_kind};
 
 use entries::Kind;
 use mm_read::Stmt;

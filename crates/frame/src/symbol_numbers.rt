@@ -1,6 +1,12 @@
 //! Looks up the numbers of symbols and labels.
 ghost use Rattle.std.specs.Prelude.{◌≡◌, ◌++◌, ◌∷◌, [], IfSome, IfNone, false};
-ghost use Rattle.{mm_read.specs.Statements.Expr, names.specs.Codes.with_names, scope.specs.Kinds.declared_symbols, scope.specs.Kinds.declared_labels, scope.specs.Kinds.is_some_label, scope.specs.Kinds.kind_in, scope.specs.Kinds.IsNumberOf, scope.specs.Stored.SymbolNumbers.AreRecorded, scope.specs.Symbols.symbols_declared_by, scope.specs.Symbols.symbols_in, frame.specs.Stored.Naming.is_kind_of_symbol};
+ghost use Rattle.mm_read.specs.Statements.{Expr};
+ghost use Rattle.names.specs.Codes.{with_names};
+ghost use Rattle.scope.specs.Kinds.{declared_symbols, declared_labels, is_some_label, kind_in};
+ghost use Rattle.scope.specs.Kinds.{IsNumberOf};
+ghost use Rattle.scope.specs.Stored.SymbolNumbers.{AreRecorded};
+ghost use Rattle.scope.specs.Symbols.{symbols_declared_by, symbols_in};
+ghost use Rattle.frame.specs.Stored.Naming.{is_kind_of_symbol};
 
 use mm_lex::Words;
 use mm_read::Stmt;
@@ -35,7 +41,8 @@ pub fn label_number(numbering: &Numbering, word: &[u8]) -> Option<u32>
 
 /// Records the number of a symbol. If it has none, nothing is recorded of the whole list.
 fn record_symbol(numbering: &Numbering, word: &[u8], recorded: &mut SymbolNumbers)
-    ensures { (xs : Expr) → AreRecorded (declared_symbols numbering.now) xs recorded.old → AreRecorded (declared_symbols numbering.now) (xs ++ word.now ∷ []) recorded.new }
+    ensures { (xs : Expr) → AreRecorded (declared_symbols numbering.now) xs recorded.old
+        → AreRecorded (declared_symbols numbering.now) (xs ++ word.now ∷ []) recorded.new }
 {
     match symbol_number(numbering, word) {
         Some(number) => recorded.record_number(number),
@@ -56,8 +63,10 @@ fn record_list(numbering: &Numbering, words: &Words, recorded: &mut SymbolNumber
 /// Records the numbers of the symbols of a statement, if they are not recorded yet. The symbols
 /// that it declares have no numbers yet.
 pub fn find_numbers(numbering: &Numbering, stmt: &Stmt, recorded: &mut SymbolNumbers)
-    requires { AreRecorded (with_names (declared_symbols numbering.now) (symbols_declared_by stmt.now)) (symbols_in stmt.now) recorded.old }
-    ensures { AreRecorded (with_names (declared_symbols numbering.now) (symbols_declared_by stmt.now)) (symbols_in stmt.now) recorded.new }
+    requires { AreRecorded (with_names (declared_symbols numbering.now) (symbols_declared_by stmt.now))
+        (symbols_in stmt.now) recorded.old }
+    ensures { AreRecorded (with_names (declared_symbols numbering.now) (symbols_declared_by stmt.now))
+        (symbols_in stmt.now) recorded.new }
 {
     if recorded.numbers().is_some() {
         return;

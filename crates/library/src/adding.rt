@@ -115,7 +115,8 @@ pub(crate) fn add_all_verifying<G: Gate + Sync, R: Threads + Sync>(
     let workers_ahead = (workers / 2).max(2) - 1;
     let mut verify = || -> usize
         requires { IsSync G.row × IsSync R.row × (1 ≤ workers_ahead) × (workers_ahead ≤ 16) × AreShaped first.now }
-        ensures { (result ≤ length first.entry.now) × AreProvedTo first.entry.now result × IsCountedOnce ahead.entry.now ahead.exit.now first.entry.now }
+        ensures { (result ≤ length first.entry.now) × AreProvedTo first.entry.now result
+            × IsCountedOnce ahead.entry.now ahead.exit.now first.entry.now }
     {
         let workers = PoolSize::new(workers_ahead);
         let parallel = Parallel {
@@ -128,7 +129,8 @@ pub(crate) fn add_all_verifying<G: Gate + Sync, R: Threads + Sync>(
     };
     let mut add = || -> AddOutcome
         requires { AreShaped statements.now × (tables.now.frames.statements ≡ tables.now.rules.statements) }
-        ensures { IsAdded tables.entry.now tables.exit.now statements.entry.now result × IsCountedOnce calling.entry.now calling.exit.now statements.entry.now }
+        ensures { IsAdded tables.entry.now tables.exit.now statements.entry.now result
+            × IsCountedOnce calling.entry.now calling.exit.now statements.entry.now }
     { add_all(statements, tables, calling) };
     let (proved_to, mut added) = join_mut(rt, &mut verify, &mut add);
     added.proved_to = proved_to;

@@ -1,6 +1,7 @@
 //! Good statements (each obeys the rules, all blocks close, and each `$p` is proved), with the
 //! tables that judge later ones.
-ghost use Rattle.std.specs.Prelude.{◌≡◌, ◌+◌, ◌-◌, ◌*◌, ◌≤◌, ◌++◌, [], length, take, drop, Ok, Some, None, IfOk, OnOk, OnErr};
+ghost use Rattle.std.specs.Prelude.{◌≡◌, ◌+◌, ◌-◌, ◌*◌, ◌≤◌, ◌++◌, [], length, take, drop, Ok};
+ghost use Rattle.std.specs.Prelude.{Some, None, IfOk, OnOk, OnErr};
 ghost use Rattle.frame.specs.AtPosition.{HasLabelsOnce};
 ghost use Rattle.library.specs.Added.{Adds, IsAddedAfter, count_of};
 ghost use Rattle.library.specs.Good.{Good};
@@ -218,7 +219,8 @@ fn judge<F: Fn(&Proofs<'_>, &mut Checkers) -> Result<Option<usize>, AllocError>>
     first_wrong: &F,
 ) -> Result<Option<Cause>, AllocError>
     requires finds { FindsFirstWrong (F.pre first_wrong.now) (F.post first_wrong.now) }
-    requires broken { IfOk added.broken (λ broken. broken ≡ first_broken 1 (take start statements.now) (drop start statements.now)) }
+    requires broken { IfOk added.broken
+        (λ broken. broken ≡ first_broken 1 (take start statements.now) (drop start statements.now)) }
     requires frames { added.broken ≡ Ok None → frames.now.statements ≡ bares statements.now }
     requires proved_to { AreProvedBetween statements.now start added.proved_to }
     ensures judged { IfOk result (IsJudged (take start statements.now) (drop start statements.now)) }

@@ -2,7 +2,8 @@
 //! rest on it.
 ghost use Rattle.std.specs.Prelude.{◌≡◌, ◌≤◌, ◌↔◌, true, false, Some, length, take, IfOk};
 ghost use Rattle.frame.specs.AtPosition.{HasLabelsOnce};
-ghost use Rattle.library.specs.UseMarks.{is_marked, DecidesNumbersCiteMarked, ProofCitesMarked, ListsNone, ListsSome};
+ghost use Rattle.library.specs.UseMarks.{is_marked, DecidesNumbersCiteMarked, ProofCitesMarked};
+ghost use Rattle.library.specs.UseMarks.{ListsNone, ListsSome};
 ghost use Rattle.library.specs.Uses.{IsUser, AreLabelsOf};
 ghost use Rattle.mm_read.specs.declared.stmt.Stmt.{Stmt as Statement};
 ghost use Rattle.scope.specs.Active.{proof_of};
@@ -118,7 +119,9 @@ fn numbers_cite_marked(
 ) -> Result<bool, AllocError>
     requires once { HasLabelsOnce frames.now.statements }
     requires listed { heading.count ≤ length heading.words }
-    ensures { IfOk result (DecidesNumbersCiteMarked frames.now.statements marks.now mandatory.now (take heading.entry.count heading.entry.words) numbers.now) }
+    ensures { IfOk result
+        (DecidesNumbersCiteMarked frames.now.statements marks.now mandatory.now
+        (take heading.entry.count heading.entry.words) numbers.now) }
 {
     label_marks.clear();
     for position in mandatory {

@@ -49,7 +49,8 @@ impl DecidedEntries {
 
     /// Returns the verdicts with one more appended.
     pub fn after(_before: &DecidedEntries, _last: &DecidedEntry) -> DecidedEntries
-        ensures { result.entries ≡ _before.now.entries ++ record { author = _last.now.author; serial = _last.now.serial; verdict = verdict_of _last.now.cause } ∷ [] }
+        ensures { result.entries ≡ _before.now.entries
+            ++ record { author = _last.now.author; serial = _last.now.serial; verdict = verdict_of _last.now.cause } ∷ [] }
     {
         DecidedEntries {}
     }

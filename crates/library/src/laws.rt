@@ -1,6 +1,7 @@
 //! Laws of the library of a log. Each is a function that does nothing and ensures a sentence of
 //! `specs/Laws`.
-ghost use Rattle.library.specs.Laws.{OneVerdict, OneLibrary, LibrariesGrow, LibrariesAreGood, PlainWithoutCharters};
+ghost use Rattle.library.specs.Laws.{OneVerdict, OneLibrary, LibrariesGrow, LibrariesAreGood};
+ghost use Rattle.library.specs.Laws.{PlainWithoutCharters};
 
 /// At a given replica, an entry has one verdict and leads to one replica.
 pub fn one_verdict()

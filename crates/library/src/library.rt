@@ -107,10 +107,12 @@ impl Library {
     /// was added before and whoever submitted it, with the exceptions of `docs/COSTS.md`; and the
     /// logarithm of the count of entries.
     pub fn apply(&mut self, next: Option<&Entry>) -> Result<Verdict, AllocError>
-        ensures applies { IfOk result (λ verdict. Applies self.old.replica (option_map (λ e. e.now) next.entry) verdict self.new.replica) }
+        ensures applies { IfOk result
+            (λ verdict. Applies self.old.replica (option_map (λ e. e.now) next.entry) verdict self.new.replica) }
         ensures same { OnErr result (self.new.replica ≡ self.old.replica) }
         ensures rises { self.old.steps ≤ self.new.steps }
-        ensures counted { HasFewSteps self.old.replica (option_map (λ e. e.now) next.entry) self.old.steps self.new.steps }
+        ensures counted { HasFewSteps self.old.replica
+            (option_map (λ e. e.now) next.entry) self.old.steps self.new.steps }
     {
         let alloc = self.database.alloc();
         let add = |statements: &[Stmt], tables: &mut Tables, steps: &mut StepCounts, _checkers: &mut Checkers| -> AddOutcome
@@ -147,10 +149,12 @@ impl Library {
         workers: PoolSize,
         gate: &G,
     ) -> Result<Verdict, AllocError>
-        ensures applies { IfOk result (λ verdict. Applies self.old.replica (option_map (λ e. e.now) next.entry) verdict self.new.replica) }
+        ensures applies { IfOk result
+            (λ verdict. Applies self.old.replica (option_map (λ e. e.now) next.entry) verdict self.new.replica) }
         ensures same { OnErr result (self.new.replica ≡ self.old.replica) }
         ensures rises { self.old.steps ≤ self.new.steps }
-        ensures counted { HasFewSteps self.old.replica (option_map (λ e. e.now) next.entry) self.old.steps self.new.steps }
+        ensures counted { HasFewSteps self.old.replica
+            (option_map (λ e. e.now) next.entry) self.old.steps self.new.steps }
     {
         let alloc = self.database.alloc();
         let parallel = Parallel {
@@ -191,10 +195,12 @@ impl Library {
         requires reads { T.IsAlwaysCallable read.now × ReadsTexts (FnReturnsAt T.Fn read.now) }
         requires adds { Adds (E.pre add.now) (E.post add.now) }
         requires finds { FindsFirstWrong (F.pre first_wrong.now) (F.post first_wrong.now) }
-        ensures applies { IfOk result (λ verdict. Applies self.old.replica (option_map (λ e. e.now) next.entry) verdict self.new.replica) }
+        ensures applies { IfOk result
+            (λ verdict. Applies self.old.replica (option_map (λ e. e.now) next.entry) verdict self.new.replica) }
         ensures same { OnErr result (self.new.replica ≡ self.old.replica) }
         ensures rises { self.old.steps ≤ self.new.steps }
-        ensures counted { HasFewSteps self.old.replica (option_map (λ e. e.now) next.entry) self.old.steps self.new.steps }
+        ensures counted { HasFewSteps self.old.replica
+            (option_map (λ e. e.now) next.entry) self.old.steps self.new.steps }
     {
         let Some(entry) = next else {
             return Ok(Verdict::Nothing);

@@ -3,7 +3,8 @@
 ghost use Rattle.std.specs.Prelude.{◌≡◌, ◌≢◌, ◌↔◌, ◌⊎◌, Ok, Err, IfOk, MatchResult};
 ghost use Rattle.frame.specs.AtPosition.{HasLabelsOnce};
 ghost use Rattle.library.specs.Good.{Good};
-ghost use Rattle.library.specs.Queries.{HasNoLabel, NamesProvable, NamesNoProvable, IsTrace, IsUsage, IsProofOf, IsTreeOf, IsNoProvable};
+ghost use Rattle.library.specs.Queries.{HasNoLabel, NamesProvable, NamesNoProvable, IsTrace};
+ghost use Rattle.library.specs.Queries.{IsUsage, IsProofOf, IsTreeOf, IsNoProvable};
 ghost use Rattle.scope.specs.Active.{bares, is_provable};
 ghost use Rattle.verify.specs.Derivations.{Derivation, derivation_of};
 ghost use Rattle.verify.specs.Right.{IsSmall};
@@ -55,7 +56,8 @@ impl Library {
     pub fn trace(&self, label: &[u8]) -> Result<Vec<Word>, AskFault>
         ensures labels { IfOk result (λ labels. IsTrace self.now.replica.statements label.now labels.items) }
         ensures no_label { (result ≡ Err AskFault.NoLabel) ↔ HasNoLabel self.now.replica.statements label.now }
-        ensures not_provable { (result ≡ Err AskFault.NotProvable) ↔ NamesNoProvable self.now.replica.statements label.now }
+        ensures not_provable { (result ≡ Err AskFault.NotProvable)
+            ↔ NamesNoProvable self.now.replica.statements label.now }
         ensures never_too_large { result ≢ Err AskFault.TooLarge }
     {
         let at = provable_position(self.database(), label)?;
@@ -92,7 +94,8 @@ impl Library {
     pub fn items(&self, label: &[u8]) -> Result<(usize, Items), AskFault>
         ensures items { IfOk result (λ found. IsProofOf self.now.replica.statements label.now found.0 found.1) }
         ensures no_label { (result ≡ Err AskFault.NoLabel) ↔ HasNoLabel self.now.replica.statements label.now }
-        ensures not_provable { (result ≡ Err AskFault.NotProvable) ↔ NamesNoProvable self.now.replica.statements label.now }
+        ensures not_provable { (result ≡ Err AskFault.NotProvable)
+            ↔ NamesNoProvable self.now.replica.statements label.now }
         ensures never_too_large { result ≢ Err AskFault.TooLarge }
     {
         let at = provable_position(self.database(), label)?;
@@ -120,10 +123,12 @@ impl Library {
         ensures tree { IfOk result (λ tree. IsTreeOf self.now.replica.statements label.now (derivation_of tree)) }
         ensures within_limits { IfOk result (λ tree. IsSmall (derivation_of tree)) }
         ensures no_label { (result ≡ Err AskFault.NoLabel) ↔ HasNoLabel self.now.replica.statements label.now }
-        ensures not_provable { (result ≡ Err AskFault.NotProvable) ↔ NamesNoProvable self.now.replica.statements label.now }
+        ensures not_provable { (result ≡ Err AskFault.NotProvable)
+            ↔ NamesNoProvable self.now.replica.statements label.now }
         ensures large { (t : Derivation) → IsTreeOf self.now.replica.statements label.now t → ¬ IsSmall t
             → (result ≡ Err AskFault.TooLarge) ⊎ (result ≡ Err AskFault.Memory) }
-        ensures only_large { result ≡ Err AskFault.TooLarge → (t : Derivation) × IsTreeOf self.now.replica.statements label.now t × (¬ IsSmall t) }
+        ensures only_large { result ≡ Err AskFault.TooLarge → (t : Derivation)
+            × IsTreeOf self.now.replica.statements label.now t × (¬ IsSmall t) }
     {
         let database = self.database();
         let frames = database.frames();
@@ -143,7 +148,9 @@ impl Library {
 ///
 /// Errors: `NoLabel` if no statement has the label, `NotProvable` if it is no `$p`.
 fn provable_position(database: &CheckedDatabase, label: &[u8]) -> Result<usize, AskFault>
-    ensures found { MatchResult result (λ at. NamesProvable database.now label.now at × (¬ NamesNoProvable database.now label.now)) (IsNoProvable database.now label.now) }
+    ensures found { MatchResult result
+        (λ at. NamesProvable database.now label.now at × (¬ NamesNoProvable database.now label.now))
+        (IsNoProvable database.now label.now) }
     ensures good { Good database.now }
 {
     let Some(at) = database.frames().position(label) else {

@@ -1,7 +1,9 @@
 //! Finds the runs of visible bytes in a text whose bytes are all allowed, one after another.
-ghost use Rattle.std.specs.Prelude.{◌≡◌, ◌-◌, ◌<◌, ◌≤◌, [], ◌∷◌, ℕ, not, length, take, drop, MatchOption, IfSome, IsTrue, slice_index, IsFalse};
+ghost use Rattle.std.specs.Prelude.{◌≡◌, ◌-◌, ◌<◌, ◌≤◌, [], ◌∷◌, ℕ, not, length, take, drop};
+ghost use Rattle.std.specs.Prelude.{MatchOption, IfSome, IsTrue, slice_index, IsFalse};
 ghost use Rattle.std.specs.List.{position, position_or_len};
-ghost use Rattle.mm_lex.specs.Alphabet.{is_white, is_empty_or_starts_white, runs_from, IsPartOfRun, name_eq};
+ghost use Rattle.mm_lex.specs.Alphabet.{is_white, is_empty_or_starts_white, runs_from, IsPartOfRun};
+ghost use Rattle.mm_lex.specs.Alphabet.{name_eq};
 ghost use Rattle.mm_lex.specs.Tokens.{opener, closer, HasOnlyAllowedBytes};
 
 use crate::lanes::{count_visible, count_white};

@@ -1,5 +1,6 @@
 //! A list of words in one buffer.
-ghost use Rattle.std.specs.Prelude.{◌≡◌, ◌↔◌, [], ◌∷◌, ◌++◌, ◌==◌, ◌≤◌, length, count_by, IsTrue, IfOk, OnOk, OnErr};
+ghost use Rattle.std.specs.Prelude.{◌≡◌, ◌↔◌, [], ◌∷◌, ◌++◌, ◌==◌, ◌≤◌, length, count_by, IsTrue};
+ghost use Rattle.std.specs.Prelude.{IfOk, OnOk, OnErr};
 ghost use Rattle.mm_lex.specs.Words.{spaced, words_of, is_word, AreWords};
 
 use crate::word_iter::WordIter;

@@ -1,5 +1,6 @@
 //! The export form: statements as a text, one line for each.
-ghost use Rattle.std.specs.Prelude.{◌≡◌, [], ◌∷◌, ◌++◌, if◌then◌else◌, flat_map, codes, IsTrue, IfOk, OnOk, OnErr};
+ghost use Rattle.std.specs.Prelude.{◌≡◌, [], ◌∷◌, ◌++◌, if◌then◌else◌, flat_map, codes, IsTrue};
+ghost use Rattle.std.specs.Prelude.{IfOk, OnOk, OnErr};
 ghost use Rattle.mm_lex.specs.Alphabet.{is_empty};
 ghost use Rattle.mm_lex.specs.Words.{spaced, words_of, is_word};
 ghost use Rattle.mm_read.specs.Statements.{IsShaped, AreShaped, are_symbols};

@@ -1,5 +1,6 @@
 //! The laws of reading and writing, each the contract of a function that does nothing.
-ghost use Rattle.mm_read.specs.Laws.{OneStatementList, StatementsOrFault, OneShapeFault, ExportReads, JoinedReads};
+ghost use Rattle.mm_read.specs.Laws.{OneStatementList, StatementsOrFault, OneShapeFault};
+ghost use Rattle.mm_read.specs.Laws.{ExportReads, JoinedReads};
 
 /// States that each list of tokens reads as at most one list of statements.
 pub fn one_statement_list()

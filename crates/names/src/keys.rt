@@ -1,6 +1,7 @@
 //! A 64-bit key for each name: all bytes of a short name, a hash of a longer one.
 ghost use Rattle.std.specs.Prelude.{◌≡◌, ◌≢◌, ◌+◌, ◌*◌, ◌^◌, ◌<◌, ◌≤◌, length};
-ghost use Rattle.names.specs.Stored.Keys.{AreBytes, digits, key_bytes, eight_bytes_from, scrambled, mixed, key_of};
+ghost use Rattle.names.specs.Stored.Keys.{AreBytes, digits, key_bytes, eight_bytes_from, scrambled};
+ghost use Rattle.names.specs.Stored.Keys.{mixed, key_of};
 
 /// The least length of a name whose key is a hash, which other names may share. A shorter name
 /// shares its key with no other.

@@ -1,5 +1,6 @@
 //! The keys of names by code, and the overflow of names that found no slot in the table.
-ghost use Rattle.std.specs.Prelude.{◌≡◌, ◌≢◌, ℕ, ◌<◌, ◌≤◌, ◌^◌, length, get_or, slice_set, Some, IfOk, OnOk, OnErr, true};
+ghost use Rattle.std.specs.Prelude.{◌≡◌, ◌≢◌, ℕ, ◌<◌, ◌≤◌, ◌^◌, length, get_or, slice_set, Some};
+ghost use Rattle.std.specs.Prelude.{IfOk, OnOk, OnErr, true};
 ghost use Rattle.mm_lex.specs.Alphabet.{Name};
 ghost use Rattle.names.specs.Codes.{name_at, AreDistinct};
 ghost use Rattle.names.specs.Stored.Keys.{AreBytes, key_of};
@@ -45,7 +46,8 @@ impl NameKeys {
     pub(crate) fn has(&self, name_list: &NameList, code: u32, key: u64) -> bool
         requires name_keys { AreNameKeys self.now name_list.now }
         requires not_overflow { key ≢ IN_OVERFLOW }
-        ensures { result ≡ true → (code < length name_list.now) × AreBytes (name_at name_list.now code) × (key_of (name_at name_list.now code) ≡ key) }
+        ensures { result ≡ true → (code < length name_list.now) × AreBytes (name_at name_list.now code)
+            × (key_of (name_at name_list.now code) ≡ key) }
     {
         (code as usize) < name_list.len() && self.keys[code as usize] == key
     }
@@ -83,7 +85,8 @@ impl NameKeys {
         requires few { code < 2 ^ 32 }
         ensures keys { OnOk result (self.new.keys.items ≡ slice_set self.old.keys.items code IN_OVERFLOW) }
         ensures inserted { OnOk result (code_in_overflow self.new.overflow name.now ≡ Some code) }
-        ensures others { (x : Name) → AreBytes x → x ≢ name.now → code_in_overflow self.new.overflow x ≡ code_in_overflow self.old.overflow x }
+        ensures others { (x : Name) → AreBytes x → x ≢ name.now
+            → code_in_overflow self.new.overflow x ≡ code_in_overflow self.old.overflow x }
         ensures err { OnErr result (self.new.keys ≡ self.old.keys) }
     {
         self.overflow.insert(alloc, name, code as u32)?;
@@ -110,7 +113,9 @@ impl NameKeys {
         requires distinct { AreDistinct name_list.now }
         requires within { len ≤ length name_list.now }
         ensures keys { self.new.keys ≡ self.old.keys }
-        ensures codes { (k : ℕ) → k < len → code_in_overflow self.new.overflow (name_at name_list.now k) ≡ code_in_overflow self.old.overflow (name_at name_list.now k) }
+        ensures codes { (k : ℕ) → k < len
+            → code_in_overflow self.new.overflow (name_at name_list.now k)
+            ≡ code_in_overflow self.old.overflow (name_at name_list.now k) }
     {
         if self.overflow.is_empty() {
             return;

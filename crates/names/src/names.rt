@@ -1,5 +1,6 @@
 //! The list of names, which also finds the code of a name.
-ghost use Rattle.std.specs.Prelude.{◌≡◌, ◌<◌, ◌≤◌, ◌^◌, [], ◌∷◌, ◌++◌, length, take, IfOk, IfSome, OnOk, OnErr, false};
+ghost use Rattle.std.specs.Prelude.{◌≡◌, ◌<◌, ◌≤◌, ◌^◌, [], ◌∷◌, ◌++◌, length, take, IfOk, IfSome};
+ghost use Rattle.std.specs.Prelude.{OnOk, OnErr, false};
 ghost use Rattle.mm_lex.specs.Alphabet.{has_name};
 ghost use Rattle.names.specs.Codes.{name_at, code_of, AreDistinct};
 

@@ -47,7 +47,8 @@ impl Overflow {
     /// Records the code of a name.
     pub(crate) fn insert(&mut self, alloc: Global, name: &[u8], code: u32) -> Result<(), AllocError>
         ensures inserted { OnOk result (code_in_overflow self.new name.now ≡ Some code) }
-        ensures others { (x : Name) → AreBytes x → x ≢ name.now → code_in_overflow self.new x ≡ code_in_overflow self.old x }
+        ensures others { (x : Name) → AreBytes x → x ≢ name.now
+            → code_in_overflow self.new x ≡ code_in_overflow self.old x }
     {
         if name.len() < LEAST_HASHED_LEN {
             self.short.insert(key(name), code)?;

@@ -1,10 +1,13 @@
 //! The hash table in which the codes of names are found.
-ghost use Rattle.std.specs.Prelude.{◌≡◌, ◌≢◌, ◌+◌, ◌⊎◌, ℕ, ◌<◌, ◌≤◌, ◌^◌, [], length, get_or, IfOk, OnOk, IfSome, None, true, false};
+ghost use Rattle.std.specs.Prelude.{◌≡◌, ◌≢◌, ◌+◌, ◌⊎◌, ℕ, ◌<◌, ◌≤◌, ◌^◌, [], length, get_or, IfOk};
+ghost use Rattle.std.specs.Prelude.{OnOk, IfSome, None, true, false};
 ghost use Rattle.mm_lex.specs.Alphabet.{Name};
 ghost use Rattle.names.specs.Codes.{name_at, code_of, AreDistinct};
 ghost use Rattle.names.specs.Stored.Keys.{key_of};
 ghost use Rattle.names.specs.Stored.Overflow.{code_in_overflow};
-ghost use Rattle.names.specs.Stored.Table.{half_of, slot_of, slot_index_of, IsProbedSlot, AreFound, AreNameKeys, OverflowGrows, AreReachable, AreUnused, IsFirstFreeSlot};
+ghost use Rattle.names.specs.Stored.Table.{half_of, slot_of, slot_index_of, IsProbedSlot, AreFound};
+ghost use Rattle.names.specs.Stored.Table.{AreNameKeys, OverflowGrows, AreReachable, AreUnused};
+ghost use Rattle.names.specs.Stored.Table.{IsFirstFreeSlot};
 ghost use Rattle.names.specs.declared.keys.TheConstants.{IN_OVERFLOW};
 ghost use Rattle.names.specs.declared.table.TheConstants.{MAX_PROBES};
 
@@ -183,7 +186,8 @@ fn is_absent(slot: Slot, name_keys: &NameKeys) -> bool
 fn search_overflow(overflow: &Overflow, name_list: &NameList, name: &[u8]) -> Option<usize>
     requires { AreDistinct name_list.now }
     ensures some { IfSome result (λ n. code_of name_list.now name.now ≡ Some n) }
-    ensures none { result ≡ None → (k : ℕ) → k < length name_list.now → name_at name_list.now k ≡ name.now → code_in_overflow overflow.now name.now ≢ Some k }
+    ensures none { result ≡ None → (k : ℕ) → k < length name_list.now → name_at name_list.now k ≡ name.now
+        → code_in_overflow overflow.now name.now ≢ Some k }
 {
     if overflow.is_empty() {
         return None;
@@ -243,7 +247,8 @@ pub(crate) fn build_slots(
     requires name_keys { AreNameKeys name_keys.old name_list.now }
     ensures name_keys { AreNameKeys name_keys.new name_list.now }
     ensures overflow_grows { OverflowGrows name_keys.old name_keys.new }
-    ensures reachable { IfOk result (λ slots. AreReachable (length name_list.now) slots.items name_keys.new name_list.now) }
+    ensures reachable { IfOk result
+        (λ slots. AreReachable (length name_list.now) slots.items name_keys.new name_list.now) }
 {
     let mut slots = free_slots(alloc, slots_for(name_list.len(), more))?;
     for code in 0..name_list.len() {

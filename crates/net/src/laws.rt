@@ -1,6 +1,8 @@
 //! The laws of agreement, each the contract of a function that does nothing.
 ghost use Rattle.net.specs.Crash.{CrashesLeaveEvents, CrashesOnlyRestart, LogsAgreeAcrossCrash};
-ghost use Rattle.net.specs.Laws.{BallotsHaveOneValue, ChosenValuesPersist, ChosenValuesAgree, LogEntriesAreChosen, LogsOfNodesAgree, LogEntriesWereOffered, KeptPartSurvives, LogsOnlyGrow, RestartEmptiesLog};
+ghost use Rattle.net.specs.Laws.{BallotsHaveOneValue, ChosenValuesPersist, ChosenValuesAgree};
+ghost use Rattle.net.specs.Laws.{LogEntriesAreChosen, LogsOfNodesAgree, LogEntriesWereOffered};
+ghost use Rattle.net.specs.Laws.{KeptPartSurvives, LogsOnlyGrow, RestartEmptiesLog};
 
 /// States agreement after any events of which none meets a fault, whatever was lost, repeated or
 /// delayed and whichever nodes restarted, for any weights, any limit on events and any values.

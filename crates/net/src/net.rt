@@ -3,7 +3,9 @@
 ghost use Rattle.synod.specs.Weights.{IsWeights};
 ghost use Rattle.net.specs.History.{nodes_of};
 ghost use Rattle.net.specs.World.{nodes_from};
-ghost use Rattle.std.specs.Prelude.{◌≡◌, ◌↔◌, ◌≤◌, ◌<◌, ◌++◌, [], Ok, Err, Some, None, length, vec_len, vec_capacity, IfOk, IsOk, OnOk, OnErr, IsOkUnless, MatchResult};
+ghost use Rattle.std.specs.Prelude.{◌≡◌, ◌↔◌, ◌≤◌, ◌<◌, ◌++◌, [], Ok, Err, Some, None, length};
+ghost use Rattle.std.specs.Prelude.{vec_len, vec_capacity, IfOk, IsOk, OnOk, OnErr, IsOkUnless};
+ghost use Rattle.std.specs.Prelude.{MatchResult};
 
 use crate::event::Event;
 use crate::fault::StepFault;
@@ -51,7 +53,8 @@ impl<V: Value> Net<V> {
     ghost use Rattle.net.specs.World.{log_after, packets_after, IsLogEntry};
     ghost use Rattle.net.specs.History.{AreOfWorld, world_of, with_event};
     ghost use Rattle.net.specs.KeptPart.{node_of_event};
-    ghost use Rattle.net.specs.Staged.{IsStagingResultInNet, HasSpareCapacity, IsStaged, IsOfEvent, ChangesOnlyCapacity, IsTaken, posts_of};
+    ghost use Rattle.net.specs.Staged.{IsStagingResultInNet, HasSpareCapacity, IsStaged, IsOfEvent};
+    ghost use Rattle.net.specs.Staged.{ChangesOnlyCapacity, IsTaken, posts_of};
     ghost use Rattle.net.specs.Agreement.{Agreement};
     ghost use Rattle.net.specs.declared.fault.StepFault.TheVariants.{NoNode, NoPacket, Memory};
 
@@ -60,7 +63,8 @@ impl<V: Value> Net<V> {
     ///
     /// Errors: `Memory`.
     pub fn new(alloc: Global, weights: Weights, event_limit: u64) -> Result<Self, StepFault>
-        ensures new { IfOk result (λ net. net.history ≡ record { weights = weights; event_limit = event_limit; events = [] }) }
+        ensures new { IfOk result
+            (λ net. net.history ≡ record { weights = weights; event_limit = event_limit; events = [] }) }
         ensures world { IfOk result (λ net. AreOfWorld V.bytes net.history net.cores net.packets) }
         ensures only_memory { IsOkUnless result Memory }
     {
@@ -117,7 +121,8 @@ impl<V: Value> Net<V> {
     /// net.
     fn stage_at_node(&mut self, event: Event<V>) -> Result<StagedEvent<V>, StepFault>
         requires { length self.old.history.events < self.old.history.event_limit }
-        ensures staged { IsStagingResultInNet V.bytes self.new event (world_of V.bytes (with_event self.old.history event)) result }
+        ensures staged { IsStagingResultInNet V.bytes self.new event
+            (world_of V.bytes (with_event self.old.history event)) result }
         ensures only_capacity { ChangesOnlyCapacity self.old self.new }
     {
         let Some(k) = self.node_of(&event) else {
@@ -230,8 +235,10 @@ impl<V: Value> Net<V> {
     ///
     /// Errors: `NoPacket`.
     pub fn packet(&self, number: u64) -> Result<&Packet<V>, StepFault>
-        ensures found { IfOk result (λ packet. slice_get (packets_after (world_of V.bytes self.now.history)) number ≡ Some packet.now) }
-        ensures no_packet { (result ≡ Err NoPacket) ↔ (slice_get (packets_after (world_of V.bytes self.now.history)) number ≡ None) }
+        ensures found { IfOk result
+            (λ packet. slice_get (packets_after (world_of V.bytes self.now.history)) number ≡ Some packet.now) }
+        ensures no_packet { (result ≡ Err NoPacket)
+            ↔ (slice_get (packets_after (world_of V.bytes self.now.history)) number ≡ None) }
         ensures only_no_packet { IsOkUnless result NoPacket }
     {
         match self.packets.get(number as usize) {

@@ -47,7 +47,8 @@ impl<V: Value> StagedEvent<V> {
 
     /// Returns the change that the event makes to the kept part of its node, if any.
     pub fn change(&self) -> Option<&Change<V>>
-        ensures { MatchOption result (change_in self.now.work ≡ None) (λ change. change_in self.now.work ≡ Some change.now) }
+        ensures { MatchOption result (change_in self.now.work ≡ None)
+            (λ change. change_in self.now.work ≡ Some change.now) }
     {
         match &self.work {
             StagedWork::Step(ready) => ready.change(),

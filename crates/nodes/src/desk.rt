@@ -1,9 +1,12 @@
 //! Desks: handles to a cluster, on which any thread may make calls.
-ghost use Rattle.std.specs.Prelude.{◌≡◌, ◌≤◌, ◌<◌, ◌⊎◌, ℕ, Ok, Err, IfOk, IfErr, OnOk, IsErrAnd, IsOkUnless};
+ghost use Rattle.std.specs.Prelude.{◌≡◌, ◌≤◌, ◌<◌, ◌⊎◌, ℕ, Ok, Err, IfOk, IfErr, OnOk, IsErrAnd};
+ghost use Rattle.std.specs.Prelude.{IsOkUnless};
 ghost use Rattle.net.specs.declared.event.Event.TheVariants.{Offer, Begin, Restart};
-ghost use Rattle.net.specs.declared.fault.StepFault.TheVariants.{NoNode, EventsSpent, Memory, Apart, Stopped};
+ghost use Rattle.net.specs.declared.fault.StepFault.TheVariants.{NoNode, EventsSpent, Memory};
+ghost use Rattle.net.specs.declared.fault.StepFault.TheVariants.{Apart, Stopped};
 ghost use Rattle.cluster.specs.declared.compare.Ahead.TheVariants.{Same};
-ghost use Rattle.nodes.specs.Desk.{IsListed, IsStatus, IsCompared, IsPlayed, IsPlayFault, IsRestartFault};
+ghost use Rattle.nodes.specs.Desk.{IsListed, IsStatus, IsCompared, IsPlayed, IsPlayFault};
+ghost use Rattle.nodes.specs.Desk.{IsRestartFault};
 
 use crate::shared_nodes::SharedNodes;
 use cluster::{Ahead, list_on};
@@ -76,7 +79,8 @@ impl<G: Gate, K: Keep<Carried>> Desk<G, K> {
     pub fn restart<R: Wait>(&self, rt: &R, k: u8) -> Result<(), StepFault>
         ensures restarted { OnOk result ((count : ℕ) × IsPlayed (Restart k) (Ok count)) }
         ensures refused { k < self.now → IfErr result (IsRestartFault k) }
-        ensures no_node { self.now ≤ k → IsErrAnd result (λ fault. (fault ≡ Stopped) ⊎ (fault ≡ EventsSpent) ⊎ (fault ≡ NoNode)) }
+        ensures no_node { self.now ≤ k
+            → IsErrAnd result (λ fault. (fault ≡ Stopped) ⊎ (fault ≡ EventsSpent) ⊎ (fault ≡ NoNode)) }
     {
         if self.shared.is_stopped(rt) {
             return Err(StepFault::Stopped);

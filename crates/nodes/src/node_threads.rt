@@ -226,7 +226,8 @@ impl<G: Gate, K: Keep<Carried>> Cluster<G, K> {
     /// Errors: `Stopped` if the cluster was stopped before; else `Memory`, and the cluster keeps
     /// running. Cost: one pass over the history.
     pub fn stop<R: Threads + Wait>(&mut self, rt: &R) -> Result<Report, StepFault>
-        ensures report { IfOk result (λ report. (switch : SwitchView Carried) × IsReport switch self.old report.handled.items) }
+        ensures report { IfOk result
+            (λ report. (switch : SwitchView Carried) × IsReport switch self.old report.handled.items) }
         ensures faults { IfErr result (λ fault. (fault ≡ Stopped) ⊎ (fault ≡ Memory)) }
         ensures nodes { self.new ≡ self.old }
     {

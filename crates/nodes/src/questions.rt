@@ -4,7 +4,8 @@ ghost use Rattle.std.specs.Prelude.{◌≡◌, ◌≤◌, ◌<◌, ◌⊎◌, Er
 ghost use Rattle.std.specs.Fn.{FnOnceReturnsAt};
 ghost use Rattle.net.specs.declared.fault.StepFault.TheVariants.{Apart, Memory, NoNode};
 ghost use Rattle.cluster.specs.Cell.{Cell};
-ghost use Rattle.nodes.specs.Questions.{AreNodeStatuses, IsHealth, IsHistory, IsNodeStatus, IsOfNode};
+ghost use Rattle.nodes.specs.Questions.{AreNodeStatuses, IsHealth, IsHistory, IsNodeStatus};
+ghost use Rattle.nodes.specs.Questions.{IsOfNode};
 
 use crate::desk::Desk;
 use cluster::{NodeCell, ask_on};

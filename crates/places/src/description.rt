@@ -1,12 +1,14 @@
 //! Finds the descriptions of statements: the comments that precede them.
-ghost use Rattle.std.specs.Prelude.{◌≡◌, ◌++◌, ◌-◌, ◌<◌, ◌≤◌, ℕ, length, slice_index, IfOk, IsTrue, OnOk};
+ghost use Rattle.std.specs.Prelude.{◌≡◌, ◌++◌, ◌-◌, ◌<◌, ◌≤◌, ℕ, length, slice_index, IfOk, IsTrue};
+ghost use Rattle.std.specs.Prelude.{OnOk};
 ghost use Rattle.std.specs.Option.{option_to_list};
 ghost use Rattle.mm_lex.specs.Alphabet.{is_white};
 ghost use Rattle.mm_lex.specs.Comments.{runs_after};
 ghost use Rattle.mm_read.specs.Statements.{Database};
 ghost use Rattle.mm_read.specs.Reads.{Reads};
 ghost use Rattle.places.specs.Descriptions.{AreDescriptions};
-ghost use Rattle.places.specs.Walk.{CanSkip, SkipsRuns, state_after_run, description_of_begun_statement, walk_over};
+ghost use Rattle.places.specs.Walk.{CanSkip, SkipsRuns, state_after_run};
+ghost use Rattle.places.specs.Walk.{description_of_begun_statement, walk_over};
 
 use crate::statement_tokens::ends_statement;
 use memchr::memchr;

@@ -1,12 +1,14 @@
 //! Finds the tokens of statements.
-ghost use Rattle.std.specs.Prelude.{◌≡◌, ℕ, ◌+◌, ◌-◌, ◌≤◌, Err, IfErr, IfOk, IfSome, IsSomeAnd, Some, slice_get, length};
+ghost use Rattle.std.specs.Prelude.{◌≡◌, ℕ, ◌+◌, ◌-◌, ◌≤◌, Err, IfErr, IfOk, IfSome, IsSomeAnd};
+ghost use Rattle.std.specs.Prelude.{Some, slice_get, length};
 ghost use Rattle.std.specs.List.{All};
 ghost use Rattle.mm_lex.specs.Alphabet.{word};
 ghost use Rattle.mm_lex.specs.TextFaults.{IsCommentFault, IsFirstBadByte, IsLexFault};
 ghost use Rattle.mm_lex.specs.Tokens.{IsWordAt, words};
 ghost use Rattle.mm_read.specs.Statements.{Database};
 ghost use Rattle.mm_read.specs.Reads.{Reads};
-ghost use Rattle.places.specs.TokenSpans.{HasToken, IsCountedToken, IsTokenSpan, counted_token, index_after_ends, ends_statement};
+ghost use Rattle.places.specs.TokenSpans.{HasToken, IsCountedToken, IsTokenSpan, counted_token};
+ghost use Rattle.places.specs.TokenSpans.{index_after_ends, ends_statement};
 ghost use Rattle.places.specs.CommentFaults.{BeginsStatement};
 
 use mm_lex::{LexFault, Span, tokens};

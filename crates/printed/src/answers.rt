@@ -3,7 +3,8 @@ ghost use Rattle.std.specs.Prelude.{◌≡◌, ◌++◌, codes, decimal, flat_ma
 ghost use Rattle.mm_read.specs.Statements.{AreShaped};
 ghost use Rattle.mm_read.specs.Export.{export_of};
 ghost use Rattle.library.specs.Listed.{listed};
-ghost use Rattle.printed.specs.Printed.{verdict_text_or, log_text, assertion_line, list_text, export_text};
+ghost use Rattle.printed.specs.Printed.{verdict_text_or, log_text, assertion_line, list_text};
+ghost use Rattle.printed.specs.Printed.{export_text};
 
 use crate::packets::push_spaced_entry;
 use crate::verdict_text::push_verdict;

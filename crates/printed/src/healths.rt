@@ -1,14 +1,15 @@
 //! The health of all nodes, as text.
 ghost use Rattle.std.specs.Prelude.{◌≡◌, ◌++◌, IfOk, OnOk};
-ghost use Rattle.printed.specs.Healths.{events_line, health_lines, health_text, lead_at_text, lead_text};
+ghost use Rattle.printed.specs.Healths.{events_line, health_lines, health_text, lead_at_text};
+ghost use Rattle.printed.specs.Healths.{lead_text};
 ghost use Rattle.printed.specs.Healths.{node_counts_text, node_line, node_lines, node_start_text};
 
 use crate::counted::push_counted_lines;
 use crate::packets::push_ballot;
 use crate::states::push_count;
-use text::push_number;
 use std::alloc::{AllocError, Global};
 use synod::{Ballot, NodeState, Role};
+use text::push_number;
 use world::{Health, NodeStatus};
 
 /// Appends a line of `health` and the count of the lines that follow: a line for each node, and a

@@ -1,7 +1,8 @@
 //! Answers about the library of a node, which `play` and `serve` share.
 ghost use Rattle.std.specs.Prelude.{◌≡◌, ◌↔◌, ◌<◌, length, IfOk};
 ghost use Rattle.cluster.specs.declared.compare.Ahead.TheVariants.{First, Same, Second};
-ghost use Rattle.commands.specs.declared.node_question.LabelQuestionKind.TheVariants.{Trace, Tree, Usage};
+ghost use Rattle.commands.specs.declared.node_question.LabelQuestionKind.TheVariants.{Trace, Tree};
+ghost use Rattle.commands.specs.declared.node_question.LabelQuestionKind.TheVariants.{Usage};
 ghost use Rattle.printed.specs.Counted.{counted_lines_text};
 ghost use Rattle.program.specs.Answers.{IsLabelAnswer, labels_text};
 

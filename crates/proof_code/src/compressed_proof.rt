@@ -1,7 +1,9 @@
 //! Compressed proofs.
-ghost use Rattle.std.specs.Prelude.{◌≡◌, ◌↔◌, ◌<◌, ◌≤◌, ◌^◌, ◌++◌, length, take, drop, IsTrue, IfOk, IfSome, Err};
+ghost use Rattle.std.specs.Prelude.{◌≡◌, ◌↔◌, ◌<◌, ◌≤◌, ◌^◌, ◌++◌, length, take, drop, IsTrue};
+ghost use Rattle.std.specs.Prelude.{IfOk, IfSome, Err};
 ghost use Rattle.mm_lex.specs.Alphabet.{has_name};
-ghost use Rattle.proof_code.specs.Writes.{is_unfinished, is_compressed, WritesFinishedCompressed, IsMalformed};
+ghost use Rattle.proof_code.specs.Writes.{is_unfinished, is_compressed, WritesFinishedCompressed};
+ghost use Rattle.proof_code.specs.Writes.{IsMalformed};
 ghost use Rattle.proof_code.specs.Reading.{share_label};
 ghost use Rattle.proof_code.specs.LabelSets.{IsLabelSet};
 
@@ -31,7 +33,8 @@ pub fn packed(alloc: Global, tokens: &Words, mandatory: &Words) -> Result<Items,
     requires { IsTrue (is_compressed tokens.now) }
     ensures items { IfOk result (λ items. WritesFinishedCompressed tokens.now mandatory.now items) }
     ensures unfinished { (result ≡ Err CodeFault.Unfinished) ↔ IsTrue (is_unfinished tokens.now) }
-    ensures malformed { (result ≡ Err CodeFault.Malformed) ↔ IsMalformed tokens.now (WritesFinishedCompressed tokens.now mandatory.now) }
+    ensures malformed { (result ≡ Err CodeFault.Malformed)
+        ↔ IsMalformed tokens.now (WritesFinishedCompressed tokens.now mandatory.now) }
 {
     if is_unfinished(tokens) {
         return Err(CodeFault::Unfinished);

@@ -3,9 +3,11 @@
 //! A processor cannot predict the next letter, so no branch depends on which it is: a table has the
 //! numbers by which each byte changes the value of the digits before it, and the only test for each
 //! byte is whether a value is over the limit.
-ghost use Rattle.std.specs.Prelude.{◌≡◌, if◌then◌else◌, ◌+◌, ◌*◌, ◌^◌, ◌<◌, ◌≤◌, ◌∷◌, ℕ, List, length, take, max, None, Some, IfNone, IfSome, MatchOption};
+ghost use Rattle.std.specs.Prelude.{◌≡◌, if◌then◌else◌, ◌+◌, ◌*◌, ◌^◌, ◌<◌, ◌≤◌, ◌∷◌, ℕ, List};
+ghost use Rattle.std.specs.Prelude.{length, take, max, None, Some, IfNone, IfSome, MatchOption};
 ghost use Rattle.proof_code.specs.Text.{letters_of, numbers_from, starts_with_mark};
-ghost use Rattle.proof_code.specs.Reading.{IsByteEffect, IsNextRead, digits_after, ended, ends_number, limit_after, value_after};
+ghost use Rattle.proof_code.specs.Reading.{IsByteEffect, IsNextRead, digits_after, ended};
+ghost use Rattle.proof_code.specs.Reading.{ends_number, limit_after, value_after};
 
 use crate::byte_step::STEPS;
 
@@ -53,8 +55,11 @@ impl LetterState {
         requires digits_limit { self.now.limit < 20 * digits_limit + 20 }
         requires small { 20 * digits_limit + 26 < 2 ^ 64 }
         requires no_overflow { self.now.limit + digits_limit < 2 ^ 64 }
-        ensures some { IfSome result (λ _. IsByteEffect self.now.limit self.now.digits byte (ended byte value) (limit_after self.now.limit byte) (digits_after byte value)) }
-        ensures none { IfNone result ((text : List ℕ) → numbers_from self.now.limit self.now.digits (letters_of (byte ∷ text)) ≡ None) }
+        ensures some { IfSome result
+            (λ _. IsByteEffect self.now.limit self.now.digits byte (ended byte value) (limit_after self.now.limit byte)
+            (digits_after byte value)) }
+        ensures none { IfNone result
+            ((text : List ℕ) → numbers_from self.now.limit self.now.digits (letters_of (byte ∷ text)) ≡ None) }
         ensures within { IfSome result (λ _. value ≤ max self.now.limit digits_limit) }
         ensures digits_in_range { IfSome result (λ _. digits_after byte value ≤ digits_limit) }
     {
@@ -90,8 +95,11 @@ impl LetterState {
         requires digits_in_range { self.old.digits ≤ self.old.limit }
         requires small { self.old.limit + 1 < 2 ^ 32 }
         requires room { count < length numbers.old }
-        ensures some { IfSome result (λ next. IsNextRead (take count numbers.old) self.old.limit self.old.digits byte (take next numbers.new) self.new.limit self.new.digits) }
-        ensures none { IfNone result ((text : List ℕ) → numbers_from self.old.limit self.old.digits (letters_of (byte ∷ text)) ≡ None) }
+        ensures some { IfSome result
+            (λ next. IsNextRead (take count numbers.old) self.old.limit self.old.digits byte
+            (take next numbers.new) self.new.limit self.new.digits) }
+        ensures none { IfNone result
+            ((text : List ℕ) → numbers_from self.old.limit self.old.digits (letters_of (byte ∷ text)) ≡ None) }
         ensures within { IfSome result (λ next. next ≤ count + 1) }
         ensures limit { self.new.limit ≤ self.old.limit + 1 }
         ensures digits_in_range { IfSome result (λ _. self.new.digits ≤ self.new.limit) }
@@ -114,7 +122,8 @@ impl LetterState {
 pub(crate) fn write_numbers(text: &[u8], labels: usize, numbers: &mut [u32]) -> Option<usize>
     requires small { labels + length text.now < 2 ^ 32 }
     requires room { length text.now ≤ length numbers.old }
-    ensures some { IfSome result (λ count. numbers_from labels 0 (letters_of text.now) ≡ Some (take count numbers.new)) }
+    ensures some { IfSome result
+        (λ count. numbers_from labels 0 (letters_of text.now) ≡ Some (take count numbers.new)) }
     ensures within { IfSome result (λ count. count ≤ length text.now) }
     ensures none { IfNone result (numbers_from labels 0 (letters_of text.now) ≡ None) }
 {

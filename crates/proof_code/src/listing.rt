@@ -1,5 +1,6 @@
 //! Counts the labels that a compressed proof lists, sixteen bytes at a time.
-ghost use Rattle.std.specs.Prelude.{◌≡◌, ◌==◌, ◌+◌, ◌≤◌, length, take, MatchOption, IfSome, None, Some, true};
+ghost use Rattle.std.specs.Prelude.{◌≡◌, ◌==◌, ◌+◌, ◌≤◌, length, take, MatchOption, IfSome, None};
+ghost use Rattle.std.specs.Prelude.{Some, true};
 ghost use Rattle.std.specs.List.{count_by};
 ghost use Rattle.proof_code.specs.Listing.{are_label_bytes_or_spaces, class_of, listed_count};
 
@@ -11,7 +12,8 @@ const LANES: usize = 16;
 /// Returns the count of the labels before the word `)`, and the letters after it, or `None` if
 /// there is no `)` or if a word before it is not a label.
 pub(crate) fn count_listed(text: &[u8]) -> Option<(usize, &[u8])>
-    ensures listed_count { MatchOption result (listed_count true text.now ≡ None) (λ r. listed_count true text.now ≡ Some (r.0, r.1.now)) }
+    ensures listed_count { MatchOption result (listed_count true text.now ≡ None)
+        (λ r. listed_count true text.now ≡ Some (r.0, r.1.now)) }
     ensures within { IfSome result (λ r. r.0 + length r.1.now ≤ length text.now) }
 {
     let mut count = 0;
@@ -31,7 +33,8 @@ pub(crate) fn count_listed(text: &[u8]) -> Option<(usize, &[u8])>
 
 /// Returns the same as `count_listed`, byte by byte. `last` is the byte before the text.
 fn count_by_byte(text: &[u8], last: u8) -> Option<(usize, &[u8])>
-    ensures listed_count { MatchOption result (listed_count (last == 32) text.now ≡ None) (λ r. listed_count (last == 32) text.now ≡ Some (r.0, r.1.now)) }
+    ensures listed_count { MatchOption result (listed_count (last == 32) text.now ≡ None)
+        (λ r. listed_count (last == 32) text.now ≡ Some (r.0, r.1.now)) }
     ensures within { IfSome result (λ r. r.0 + length r.1.now ≤ length text.now) }
 {
     let mut count = 0;

@@ -1,5 +1,6 @@
 //! Reads compressed proofs into a buffer that is reused.
-ghost use Rattle.std.specs.Prelude.{◌≡◌, ℕ, ◌+◌, ◌*◌, ◌^◌, ◌<◌, ◌≤◌, [], List, length, take, IsTrue, IfOk, IfSome, MatchOption, OnOk, OnErr, Some, None};
+ghost use Rattle.std.specs.Prelude.{◌≡◌, ℕ, ◌+◌, ◌*◌, ◌^◌, ◌<◌, ◌≤◌, [], List, length, take};
+ghost use Rattle.std.specs.Prelude.{IsTrue, IfOk, IfSome, MatchOption, OnOk, OnErr, Some, None};
 ghost use Rattle.mm_lex.specs.Alphabet.{Name};
 ghost use Rattle.proof_code.specs.declared.item.Item.{Item};
 ghost use Rattle.proof_code.specs.Text.{letters_of, numbers_from};

@@ -1,7 +1,8 @@
 //! The block of a statement.
 ghost use Rattle.std.specs.Prelude.{◌≡◌, ◌++◌, option_map, OnOk};
 ghost use Rattle.proof_pages.specs.Lines.{frame_if};
-ghost use Rattle.proof_pages.specs.Blocks.{line_and_column_text, heading, description_lines, block_text};
+ghost use Rattle.proof_pages.specs.Blocks.{line_and_column_text, heading, description_lines};
+ghost use Rattle.proof_pages.specs.Blocks.{block_text};
 ghost use Rattle.proof_pages.specs.BlockInputs.{IsBlockInput};
 
 use crate::block_input::BlockInput;

@@ -2,7 +2,8 @@
 ghost use Rattle.std.specs.Prelude.{◌≡◌, ◌++◌, flat_map, IsTrue, OnOk};
 ghost use Rattle.scope.specs.Active.{bares, before, is_assertion};
 ghost use Rattle.frame.specs.FrameOf.{mandatory_groups};
-ghost use Rattle.proof_pages.specs.Lines.{line_at, group_line, symbol_text, group_line_of_numbers, frame_lines};
+ghost use Rattle.proof_pages.specs.Lines.{line_at, group_line, symbol_text, group_line_of_numbers};
+ghost use Rattle.proof_pages.specs.Lines.{frame_lines};
 ghost use Rattle.proof_pages.specs.BlockInputs.{IsBlockInput};
 
 use crate::block_input::BlockInput;

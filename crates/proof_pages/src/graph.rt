@@ -1,7 +1,8 @@
 //! A step as a node of a graph in the DOT language of Graphviz.
 ghost use Rattle.std.specs.Prelude.{◌≡◌, ◌<◌, ◌++◌, length, get_or, flat_map, OnOk};
 ghost use Rattle.steps.specs.Rows.{no_row};
-ghost use Rattle.proof_pages.specs.Graphs.{quoted_symbol, quoted_expr, arrow_line, node_line, node_text, graph_header};
+ghost use Rattle.proof_pages.specs.Graphs.{quoted_symbol, quoted_expr, arrow_line, node_line};
+ghost use Rattle.proof_pages.specs.Graphs.{node_text, graph_header};
 
 use crate::step_lines::{label_at, push_step_number};
 use frame::Frames;
@@ -76,7 +77,9 @@ fn push_node_line(
     index: usize,
 ) -> Result<(), AllocError>
     requires { index < length table.now }
-    ensures { OnOk result (text.new.items ≡ text.old.items ++ node_line frames.now.statements frames.now.names index (get_or table.now index no_row)) }
+    ensures { OnOk result
+        (text.new.items ≡ text.old.items
+        ++ node_line frames.now.statements frames.now.names index (get_or table.now index no_row)) }
 {
     push_step_number(text, index)?;
     text.extend_from_slice(b" [label=\"")?;
@@ -96,7 +99,9 @@ pub(crate) fn push_node(
     index: usize,
 ) -> Result<(), AllocError>
     requires { index < length table.now }
-    ensures { OnOk result (text.new.items ≡ text.old.items ++ node_text frames.now.statements frames.now.names index (get_or table.now index no_row)) }
+    ensures { OnOk result
+        (text.new.items ≡ text.old.items
+        ++ node_text frames.now.statements frames.now.names index (get_or table.now index no_row)) }
 {
     push_node_line(text, frames, table, index)?;
     push_arrows(text, index, table.taken(index))

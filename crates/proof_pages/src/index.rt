@@ -2,7 +2,8 @@
 ghost use Rattle.std.specs.Prelude.{◌≡◌, ◌<◌, ◌++◌, length, slice_get, Some, OnOk};
 ghost use Rattle.std.specs.Io.KnownBytes.{Appends};
 ghost use Rattle.mm_read.specs.declared.stmt.Stmt.{Stmt as Statement};
-ghost use Rattle.proof_pages.specs.Indexes.{row_start_with_kind, expr_cell, assertion_row, index_row, index_text};
+ghost use Rattle.proof_pages.specs.Indexes.{row_start_with_kind, expr_cell, assertion_row};
+ghost use Rattle.proof_pages.specs.Indexes.{index_row, index_text};
 
 use crate::notation::push_page_link;
 use crate::writing::{WriteFault, write_buffered, write_if_full};

@@ -1,7 +1,9 @@
 //! Symbols and labels on a page.
 ghost use Rattle.std.specs.Prelude.{◌≡◌, ◌++◌, Some, flat_map, OnOk};
 ghost use Rattle.verify.specs.Proves.{label_or_empty};
-ghost use Rattle.proof_pages.specs.Notations.{first_css_class_html, variable_html, coloured, symbol_html, expr_html, link_start, page_link, label_html, label_at_html};
+ghost use Rattle.proof_pages.specs.Notations.{first_css_class_html, variable_html, coloured};
+ghost use Rattle.proof_pages.specs.Notations.{symbol_html, expr_html, link_start, page_link};
+ghost use Rattle.proof_pages.specs.Notations.{label_html, label_at_html};
 
 use crate::css_classes::CssClasses;
 use frame::{Frames, is_assertion};

@@ -2,7 +2,9 @@
 //! allows.
 ghost use Rattle.std.specs.Prelude.{◌≡◌, ◌<◌, ◌++◌, length, get_or, flat_map, OnOk};
 ghost use Rattle.steps.specs.Rows.{no_row};
-ghost use Rattle.proof_pages.specs.TableRows.{link_html, row_start, number_and_links_html, row_rest, step_html, item_html, list_html, labels_html};
+ghost use Rattle.proof_pages.specs.TableRows.{link_html, row_start, number_and_links_html};
+ghost use Rattle.proof_pages.specs.TableRows.{row_rest, step_html, item_html, list_html};
+ghost use Rattle.proof_pages.specs.TableRows.{labels_html};
 
 use crate::notation::{Notation, push_html_expr, push_label_at};
 use crate::step_lines::push_step_number;

@@ -3,7 +3,8 @@ ghost use Rattle.std.specs.Prelude.{◌≡◌, ◌<◌, ◌++◌, codes, length,
 ghost use Rattle.scope.specs.Active.{stmt_at};
 ghost use Rattle.verify.specs.Proves.{label_or_empty};
 ghost use Rattle.steps.specs.Rows.{no_row};
-ghost use Rattle.proof_pages.specs.StepLines.{number_text, comma_and_number, taken_text, symbol_text, expr_text, step_line};
+ghost use Rattle.proof_pages.specs.StepLines.{number_text, comma_and_number, taken_text};
+ghost use Rattle.proof_pages.specs.StepLines.{symbol_text, expr_text, step_line};
 
 use frame::Frames;
 use std::alloc::AllocError;
@@ -88,7 +89,9 @@ pub(crate) fn push_step(
     index: usize,
 ) -> Result<(), AllocError>
     requires { index < length table.now }
-    ensures { OnOk result (text.new.items ≡ text.old.items ++ step_line frames.now.statements frames.now.names index (get_or table.now index no_row)) }
+    ensures { OnOk result
+        (text.new.items ≡ text.old.items
+        ++ step_line frames.now.statements frames.now.names index (get_or table.now index no_row)) }
 {
     push_step_number(text, index)?;
     text.extend_from_slice(b" ")?;

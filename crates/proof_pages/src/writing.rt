@@ -32,7 +32,8 @@ const WRITE_THRESHOLD: usize = 65_536;
 
 /// Writes the buffered text and clears the buffer, if it has at least 64 KiB; else does nothing.
 pub(crate) fn write_if_full<W: Write>(out: &mut W, text: &mut Vec<u8>) -> Result<(), WriteFault>
-    ensures { OnOk result (IsWrittenThenBuffered (W.contents out.old) (W.contents out.new) text.new.items text.old.items) }
+    ensures { OnOk result
+        (IsWrittenThenBuffered (W.contents out.old) (W.contents out.new) text.new.items text.old.items) }
 {
     if text.len() < WRITE_THRESHOLD {
         return Ok(());

@@ -8,7 +8,9 @@ ghost use Rattle.scope.specs.declared.rule.Rule.TheVariants as rule;
 ghost use Rattle.rule_violation.specs.Search.{has_name_in, has_fault, IsLastActiveAt};
 ghost use Rattle.rule_violation.specs.declared.search.NameRole.TheVariants as name_role;
 ghost use Rattle.rule_violation.specs.declared.symbol_search.SymbolFault.TheVariants as fault;
-ghost use Rattle.rule_violation.specs.Violations.{IsConstantViolation, IsFirstNotConstant, IsLabelConflict, IsSymbolViolation, IsViolationIfBroken};
+ghost use Rattle.rule_violation.specs.Violations.{IsConstantViolation, IsFirstNotConstant};
+ghost use Rattle.rule_violation.specs.Violations.{IsLabelConflict, IsSymbolViolation};
+ghost use Rattle.rule_violation.specs.Violations.{IsViolationIfBroken};
 
 use crate::search::{NameRole, closed_blocks_from, find_active, find_earlier};
 use crate::symbol_search::{
@@ -184,7 +186,8 @@ fn label_violation(earlier: &[Stmt], stmt: &Stmt) -> Option<RuleViolation>
 /// Returns the first statement that has the label or declares it as a symbol, as a violation of G4,
 /// or `None`.
 fn label_conflict(earlier: &[Stmt], label: &Word) -> Option<RuleViolation>
-    ensures { MatchOption result (list_any (has_name_in name_role.LabelOrSymbol label.now) earlier.now ≡ false) (IsLabelConflict earlier.now label.now) }
+    ensures { MatchOption result (list_any (has_name_in name_role.LabelOrSymbol label.now) earlier.now ≡ false)
+        (IsLabelConflict earlier.now label.now) }
 {
     match find_earlier(earlier, NameRole::LabelOrSymbol, label.as_bytes()) {
         Some(earlier_position) => Some(RuleViolation::LabelConflict { earlier_position }),
@@ -217,7 +220,8 @@ fn expression_violation(
 /// variable, by its index, or `None`.
 #[tactic(auto, using(crate::proofs::ViolationLemmas::known_both, crate::proofs::ViolationLemmas::unknown_at))]
 fn unknown_symbol(earlier: &[Stmt], constant: &Word, variable: &Word) -> Option<RuleViolation>
-    ensures { MatchOption result (list_any (has_fault earlier.now fault.Unknown) (constant.now ∷ variable.now ∷ []) ≡ false)
+    ensures { MatchOption result
+        (list_any (has_fault earlier.now fault.Unknown) (constant.now ∷ variable.now ∷ []) ≡ false)
         (IsSymbolViolation (constant.now ∷ variable.now ∷ []) (has_fault earlier.now fault.Unknown)) }
 {
     if !is_known_symbol(earlier, constant.as_bytes()) {
@@ -236,7 +240,9 @@ fn faulty_symbol(
     names: &Words,
     fault: SymbolFault,
 ) -> Result<Option<RuleViolation>, AllocError>
-    ensures { IfOk result (λ found. MatchOption found (list_any (has_fault earlier.now fault) names.now ≡ false) (IsSymbolViolation names.now (has_fault earlier.now fault))) }
+    ensures { IfOk result
+        (λ found. MatchOption found (list_any (has_fault earlier.now fault) names.now ≡ false)
+        (IsSymbolViolation names.now (has_fault earlier.now fault))) }
 {
     match first_with_fault(alloc, earlier, names, fault)? {
         Some((symbol_index, _)) => Ok(Some(RuleViolation::Symbol { symbol_index })),
@@ -259,14 +265,16 @@ fn typecode_violation(earlier: &[Stmt], stmt: &Stmt) -> Option<RuleViolation>
 
 /// Returns the first symbol of a `$f` if it is not a constant, else `None`.
 fn float_typecode_violation(earlier: &[Stmt], constant: &Word) -> Option<RuleViolation>
-    ensures { MatchOption result (is_constant earlier.now constant.now ≡ true) (IsConstantViolation earlier.now constant.now) }
+    ensures { MatchOption result (is_constant earlier.now constant.now ≡ true)
+        (IsConstantViolation earlier.now constant.now) }
 {
     not_constant(earlier, constant.as_bytes())
 }
 
 /// Returns the first of the symbols if it is not a constant, else `None`.
 fn first_not_constant(earlier: &[Stmt], names: &Words) -> Option<RuleViolation>
-    ensures { MatchOption result (starts_with_constant earlier.now names.now ≡ true) (IsFirstNotConstant earlier.now names.now) }
+    ensures { MatchOption result (starts_with_constant earlier.now names.now ≡ true)
+        (IsFirstNotConstant earlier.now names.now) }
 {
     match names.iter().next() {
         Some(first) => not_constant(earlier, first),
@@ -276,7 +284,8 @@ fn first_not_constant(earlier: &[Stmt], names: &Words) -> Option<RuleViolation>
 
 /// Returns a first symbol if it is not a constant, else `None`.
 fn not_constant(earlier: &[Stmt], first: &[u8]) -> Option<RuleViolation>
-    ensures { MatchOption result (is_constant earlier.now first.now ≡ true) (IsConstantViolation earlier.now first.now) }
+    ensures { MatchOption result (is_constant earlier.now first.now ≡ true)
+        (IsConstantViolation earlier.now first.now) }
 {
     if is_constant(earlier, first) {
         None
@@ -346,7 +355,8 @@ fn untyped_violation(
 ///
 /// Cost: the number of statements from that `${` to the end, or of all if there is none.
 pub fn find_unclosed_block(statements: &[Stmt]) -> Option<usize>
-    ensures { MatchOption result (list_any (λ p. is_open p.1) (active statements.now) ≡ false) (λ i. IsLastActiveAt statements.now i is_open) }
+    ensures { MatchOption result (list_any (λ p. is_open p.1) (active statements.now) ≡ false)
+        (λ i. IsLastActiveAt statements.now i is_open) }
 {
     let mut closed_later = 0usize;
     for i in (0..statements.len()).rev() {

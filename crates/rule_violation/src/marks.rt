@@ -1,10 +1,12 @@
 //! Marks, in one pass over the statements, the names of a table that have a property. Each name has
 //! one mark, a truth value.
-ghost use Rattle.std.specs.Prelude.{◌≡◌, ℕ, ◌+◌, ◌==◌, ◌&&◌, Some, None, [], IfOk, MatchOption, length, map, false, true, Bool};
+ghost use Rattle.std.specs.Prelude.{◌≡◌, ℕ, ◌+◌, ◌==◌, ◌&&◌, Some, None, [], IfOk, MatchOption};
+ghost use Rattle.std.specs.Prelude.{length, map, false, true, Bool};
 ghost use Rattle.std.specs.List.{list_any};
 ghost use Rattle.mm_lex.specs.Alphabet.{Name, has_name, name_eq};
 ghost use Rattle.names.specs.Codes.{HaveCodes};
-ghost use Rattle.scope.specs.Active.{active, label_of, has_label, constants, variables, is_float_of};
+ghost use Rattle.scope.specs.Active.{active, label_of, has_label, constants, variables};
+ghost use Rattle.scope.specs.Active.{is_float_of};
 ghost use Rattle.rule_violation.specs.Marks.{marked};
 ghost use Rattle.rule_violation.specs.Search.{has_name_in};
 
@@ -51,7 +53,8 @@ pub(crate) fn mark_active(
     marks: &mut [bool],
 )
     requires { length marks.old ≡ length names.now }
-    ensures { marks.new ≡ marked (λ x. list_any (λ p. has_name_in role x p.1) (active earlier.now)) mark names.now marks.old }
+    ensures { marks.new ≡ marked
+        (λ x. list_any (λ p. has_name_in role x p.1) (active earlier.now)) mark names.now marks.old }
 {
     let mut closed_later = 0usize;
     for i in (0..earlier.len()).rev() {

@@ -2,8 +2,10 @@
 ghost use Rattle.std.specs.Prelude.{◌≡◌, ◌+◌, ◌<◌, ◌^◌, ◌==◌, ◌&&◌, ◌||◌, false, MatchOption};
 ghost use Rattle.std.specs.List.{list_any};
 ghost use Rattle.mm_lex.specs.Alphabet.{has_name, name_eq};
-ghost use Rattle.scope.specs.Active.{active, label_of, has_label, constants, variables, is_float_of};
-ghost use Rattle.rule_violation.specs.Search.{has_name_in, closed_blocks_from, PassesAt, IsActiveAt};
+ghost use Rattle.scope.specs.Active.{active, label_of, has_label, constants, variables};
+ghost use Rattle.scope.specs.Active.{is_float_of};
+ghost use Rattle.rule_violation.specs.Search.{has_name_in, closed_blocks_from, PassesAt};
+ghost use Rattle.rule_violation.specs.Search.{IsActiveAt};
 
 use mm_lex::{Word, Words};
 use mm_read::Stmt;

@@ -1,5 +1,6 @@
 //! Finds the first symbol of a list that has a fault, and the first that repeats an earlier one.
-ghost use Rattle.std.specs.Prelude.{◌≡◌, ℕ, Bool, ◌||◌, false, true, IfOk, MatchOption, map, replicate, length};
+ghost use Rattle.std.specs.Prelude.{◌≡◌, ℕ, Bool, ◌||◌, false, true, IfOk, MatchOption, map};
+ghost use Rattle.std.specs.Prelude.{replicate, length};
 ghost use Rattle.std.specs.List.{list_any};
 ghost use Rattle.mm_lex.specs.Alphabet.{Name};
 ghost use Rattle.names.specs.Codes.{HaveCodes};
@@ -105,7 +106,8 @@ fn first_marked<'a>(
     requires count { length marks.now ≡ length names.now }
     requires named { HaveCodes names.now words.now }
     ensures { (test : Name → Bool) → marks.now ≡ map test names.now
-        → MatchOption result (list_any test words.entry.now ≡ false) (λ r. IsNamePassingAt words.entry.now test r.0 r.1.now) }
+        → MatchOption result (list_any test words.entry.now ≡ false)
+        (λ r. IsNamePassingAt words.entry.now test r.0 r.1.now) }
 {
     let mut left = words.iter();
     for index in 0..words.len() {

@@ -2,7 +2,8 @@
 ghost use Rattle.std.specs.Prelude.{◌≡◌, ◌<◌, ◌≤◌, Err, length, IsOkUnless};
 ghost use Rattle.timelines.specs.declared.grid.TheConstants.{MAX_ROWS};
 ghost use Rattle.run_pictures.specs.Marks.{shown_of};
-ghost use Rattle.run_pictures.specs.declared.drawing.PictureFault.TheVariants.{Memory, TooManySteps};
+ghost use Rattle.run_pictures.specs.declared.drawing.PictureFault.TheVariants.{Memory};
+ghost use Rattle.run_pictures.specs.declared.drawing.PictureFault.TheVariants.{TooManySteps};
 
 use crate::labels::{learned_note, packet_label, packet_title, step_label};
 use crate::mark::{ArrowStart, Mark, StepPoint};

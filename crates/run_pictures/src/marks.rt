@@ -2,8 +2,10 @@
 ghost use Rattle.std.specs.Prelude.{◌≡◌, ◌≤◌, ◌+◌, ◌++◌, [], ◌∷◌, length, slice_get, IfOk, OnOk};
 ghost use Rattle.std.specs.List.{list_any, position_from};
 ghost use Rattle.timelines.specs.declared.grid.TheConstants.{MAX_ROWS};
-ghost use Rattle.run_pictures.specs.Marks.{arrow, arrow_marks, break_marks, delivers, delivers_act, learned_marks, marks_from, marks_of};
-ghost use Rattle.run_pictures.specs.Marks.{point_and_break_marks, posts, step_point, step_marks, stump, stump_marks, stump_at};
+ghost use Rattle.run_pictures.specs.Marks.{arrow, arrow_marks, break_marks, delivers, delivers_act};
+ghost use Rattle.run_pictures.specs.Marks.{learned_marks, marks_from, marks_of};
+ghost use Rattle.run_pictures.specs.Marks.{point_and_break_marks, posts, step_point, step_marks};
+ghost use Rattle.run_pictures.specs.Marks.{stump, stump_marks, stump_at};
 ghost use Rattle.run_pictures.specs.RunView.{packets_of};
 
 use crate::mark::{ArrowStart, Mark, StepPoint};

@@ -1,12 +1,14 @@
 //! A world whose steps are recorded.
-ghost use Rattle.std.specs.Prelude.{◌≡◌, ◌≤◌, ◌<◌, [], false, length, slice_get, filter, IfOk, IfErr, IsErr, OnOk, OnErr, IsOkUnless};
+ghost use Rattle.std.specs.Prelude.{◌≡◌, ◌≤◌, ◌<◌, [], false, length, slice_get, filter, IfOk};
+ghost use Rattle.std.specs.Prelude.{IfErr, IsErr, OnOk, OnErr, IsOkUnless};
 ghost use Rattle.net.specs.History.{with_event, world_of};
 ghost use Rattle.net.specs.World.{packets_after};
 ghost use Rattle.net.specs.declared.fault.StepFault.TheVariants.{Memory};
 ghost use Rattle.world.specs.Carried.{value_event, carried_size};
 ghost use Rattle.world.specs.WorldView.{new_world};
 ghost use Rattle.timelines.specs.declared.grid.TheConstants.{MAX_ROWS};
-ghost use Rattle.run_pictures.specs.Steps.{act_of, step_start_of, is_event, learned_by, node_of_step, receiver_of, steps_of};
+ghost use Rattle.run_pictures.specs.Steps.{act_of, step_start_of, is_event, learned_by};
+ghost use Rattle.run_pictures.specs.Steps.{node_of_step, receiver_of, steps_of};
 
 use crate::mark::Mark;
 use crate::marks::collect_marks;

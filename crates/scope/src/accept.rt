@@ -1,5 +1,6 @@
 //! Updates the state of the rules by a legal statement.
-ghost use Rattle.std.specs.Prelude.{◌≡◌, ◌+◌, ◌<◌, ◌≤◌, ◌^◌, ◌++◌, ◌∷◌, [], ℕ, List, length, get_or, true, OnOk, OnErr};
+ghost use Rattle.std.specs.Prelude.{◌≡◌, ◌+◌, ◌<◌, ◌≤◌, ◌^◌, ◌++◌, ◌∷◌, [], ℕ, List, length};
+ghost use Rattle.std.specs.Prelude.{get_or, true, OnOk, OnErr};
 ghost use Rattle.mm_read.specs.declared.stmt.Stmt.TheVariants as shape;
 ghost use Rattle.scope.specs.Active.{bare};
 ghost use Rattle.scope.specs.Legal.{IsLegal};

@@ -1,7 +1,8 @@
 //! Adds to the numbering the names that a legal statement declares.
 ghost use Rattle.std.specs.Prelude.{◌≡◌, ◌++◌, None, true, false, IfOk, OnOk, OnErr};
 ghost use Rattle.mm_lex.specs.Alphabet.{Name, has_name};
-ghost use Rattle.scope.specs.Kinds.{Declared, IsNumberOf, declared_symbols, is_some_label, is_symbol_kind, kind_in, with_kind, with_kinds};
+ghost use Rattle.scope.specs.Kinds.{Declared, IsNumberOf, declared_symbols, is_some_label};
+ghost use Rattle.scope.specs.Kinds.{is_symbol_kind, kind_in, with_kind, with_kinds};
 ghost use Rattle.scope.specs.Declares.{IsRecordedBy, MayDeclare, declared_with};
 ghost use Rattle.scope.specs.Stored.SymbolNumbers.{AreRecorded};
 ghost use Rattle.scope.specs.declared.numbering.NameKind.TheVariants as shape_kind;

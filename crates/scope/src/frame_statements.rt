@@ -21,7 +21,8 @@ pub(crate) fn push_frame_statement(
     at: usize,
     stmt: &Stmt,
 ) -> Result<(), AllocError>
-    ensures ok { OnOk result (frame_statements.new.items ≡ frame_statements.old.items ++ as_frame_statement at stmt.now) }
+    ensures ok { OnOk result
+        (frame_statements.new.items ≡ frame_statements.old.items ++ as_frame_statement at stmt.now) }
     ensures err { OnErr result (frame_statements.new.items ≡ frame_statements.old.items) }
 {
     match stmt {
@@ -63,7 +64,8 @@ pub(crate) fn copy_frame_statements(
     alloc: Global,
     frame_statements: &[FrameStatement],
 ) -> Result<Vec<FrameStatement>, AllocError>
-    ensures { IfOk result (λ copied. copied.items ≡ flat_map (λ e. as_frame_statement e.at e.stmt) frame_statements.now) }
+    ensures { IfOk result
+        (λ copied. copied.items ≡ flat_map (λ e. as_frame_statement e.at e.stmt) frame_statements.now) }
 {
     let mut copied = Vec::new(alloc);
     for entry in frame_statements.iter() {

@@ -1,6 +1,7 @@
 //! Laws about active statements and about the rules, each the contract of a function that does
 //! nothing.
-ghost use Rattle.scope.specs.Laws.{ActiveByCounts, ActiveAfterStatement, ActiveAfterClose, ActiveAfterBlocks, RulesIgnoreProofs};
+ghost use Rattle.scope.specs.Laws.{ActiveByCounts, ActiveAfterStatement, ActiveAfterClose};
+ghost use Rattle.scope.specs.Laws.{ActiveAfterBlocks, RulesIgnoreProofs};
 
 /// States that a statement is active at a later position exactly if no prefix of the statements
 /// between has more `$}` than `${`.

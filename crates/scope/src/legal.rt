@@ -1,6 +1,7 @@
 //! Decides the rules G1 to G10, with a function for each shape of statement that can break a rule,
 //! one for `$e`, `$a` and `$p` together.
-ghost use Rattle.std.specs.Prelude.{◌≡◌, ◌==◌, Bool, true, false, not, ◌&&◌, ◌||◌, nat_lt, take, length, Some, None, IfOk, ◌∷◌, [], is_some};
+ghost use Rattle.std.specs.Prelude.{◌≡◌, ◌==◌, Bool, true, false, not, ◌&&◌, ◌||◌, nat_lt, take};
+ghost use Rattle.std.specs.Prelude.{length, Some, None, IfOk, ◌∷◌, [], is_some};
 ghost use Rattle.std.specs.List.{list_all, list_any};
 ghost use Rattle.mm_lex.specs.Alphabet.{has_name};
 ghost use Rattle.mm_read.specs.declared.stmt.Stmt.TheVariants as stmt;
@@ -9,7 +10,8 @@ ghost use Rattle.scope.specs.Legal.{all_different, broken_rule};
 ghost use Rattle.scope.specs.Stored.SymbolNumbers.{AreRecorded, are_numbers_distinct};
 ghost use Rattle.scope.specs.Stored.Ordered.{DifferFromNext, HasEqualNeighbours};
 ghost use Rattle.scope.specs.Kinds.{IsNumberOf};
-ghost use Rattle.scope.specs.Sorts.{IsSort, RecordsSymbol, checked_symbols, is_symbol_sort, broken_by_sorts};
+ghost use Rattle.scope.specs.Sorts.{IsSort, RecordsSymbol, checked_symbols, is_symbol_sort};
+ghost use Rattle.scope.specs.Sorts.{broken_by_sorts};
 ghost use Rattle.scope.specs.Symbols.{symbols_of, symbols_after, symbols_in};
 
 use crate::numbering::{NameKind, Numbering};
@@ -69,7 +71,8 @@ impl<'a> RuleChecker<'a> {
     pub(crate) fn broken_rule(&self, stmt: &Stmt, recorded: &mut SymbolNumbers) -> Option<Rule>
         requires { AreRecorded (symbols_of self.now.statements) [] recorded.old }
         ensures rule { result ≡ broken_rule self.now.statements stmt.now }
-        ensures recorded { result ≡ None → AreRecorded (symbols_after self.now.statements stmt.now) (symbols_in stmt.now) recorded.new }
+        ensures recorded { result ≡ None
+            → AreRecorded (symbols_after self.now.statements stmt.now) (symbols_in stmt.now) recorded.new }
     {
         match stmt {
             Stmt::Disj(symbols) => self.broken_by_disjoint(symbols, recorded),
@@ -153,7 +156,8 @@ impl<'a> RuleChecker<'a> {
     ) -> Option<Rule>
         requires { AreRecorded (symbols_of self.now.statements) [] recorded.old }
         ensures rule { result ≡ broken_rule self.now.statements (stmt.Float label.now constant.now variable.now) }
-        ensures recorded { result ≡ None → AreRecorded (symbols_of self.now.statements) (constant.now ∷ variable.now ∷ []) recorded.new }
+        ensures recorded { result ≡ None
+            → AreRecorded (symbols_of self.now.statements) (constant.now ∷ variable.now ∷ []) recorded.new }
     {
         if !self.is_undeclared(label.as_bytes()) {
             return Some(Rule::G4);
@@ -217,13 +221,16 @@ impl<'a> RuleChecker<'a> {
     }
 
     fn are_undeclared(&self, symbols: &Words) -> bool
-        ensures { result ≡ list_all (λ x. not (was_symbol self.now.statements x || was_label self.now.statements x)) symbols.now }
+        ensures { result ≡ list_all
+            (λ x. not (was_symbol self.now.statements x || was_label self.now.statements x)) symbols.now }
     {
         symbols.iter().all(|symbol| self.is_undeclared(symbol))
     }
 
     fn may_be_variables(&self, symbols: &Words) -> bool
-        ensures { result ≡ list_all (λ x. not (is_variable self.now.statements x || is_constant self.now.statements x || was_label self.now.statements x)) symbols.now }
+        ensures { result ≡ list_all
+            (λ x. not (is_variable self.now.statements x || is_constant self.now.statements x
+            || was_label self.now.statements x)) symbols.now }
     {
         symbols.iter().all(|symbol| self.may_be_variable(symbol))
     }
@@ -278,7 +285,8 @@ impl<'a> RuleChecker<'a> {
     #[inline(always)]
     fn look_up(&self, name: &[u8]) -> (Sort, u32)
         ensures sort { IsSort self.now.statements name.now result.0 }
-        ensures number { is_symbol_sort result.0 ≡ true → IsNumberOf (symbols_of self.now.statements) name.now result.1 }
+        ensures number { is_symbol_sort result.0 ≡ true
+            → IsNumberOf (symbols_of self.now.statements) name.now result.1 }
     {
         match self.names.find(name) {
             Some((number, NameKind::Constant)) => (Sort::Constant, number),
@@ -297,7 +305,9 @@ impl<'a> RuleChecker<'a> {
 
     /// Returns whether a name may be declared as a variable.
     fn may_be_variable(&self, name: &[u8]) -> bool
-        ensures { result ≡ not (is_variable self.now.statements name.now || is_constant self.now.statements name.now || was_label self.now.statements name.now) }
+        ensures { result ≡ not
+            (is_variable self.now.statements name.now || is_constant self.now.statements name.now
+            || was_label self.now.statements name.now) }
     {
         matches!(self.sort(name), Sort::Other)
     }

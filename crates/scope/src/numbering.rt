@@ -1,7 +1,10 @@
 //! Labels and symbols as numbers, in the order of their first declaration.
-ghost use Rattle.std.specs.Prelude.{◌≡◌, ℕ, ◌+◌, ◌-◌, ◌<◌, ◌≤◌, ◌^◌, [], ◌∷◌, ◌++◌, take, length, option_map, slice_get, IfOk, IfSome, OnOk, OnErr, None, Some, if◌then◌else◌};
+ghost use Rattle.std.specs.Prelude.{◌≡◌, ℕ, ◌+◌, ◌-◌, ◌<◌, ◌≤◌, ◌^◌, [], ◌∷◌, ◌++◌, take, length};
+ghost use Rattle.std.specs.Prelude.{option_map, slice_get, IfOk, IfSome, OnOk, OnErr, None, Some};
+ghost use Rattle.std.specs.Prelude.{if◌then◌else◌};
 ghost use Rattle.names.specs.Codes.{name_at};
-ghost use Rattle.scope.specs.Kinds.{declared_symbols, declared_labels, names_of_kind, kind_in, is_symbol_kind, is_label_kind, IsNumberOf};
+ghost use Rattle.scope.specs.Kinds.{declared_symbols, declared_labels, names_of_kind, kind_in};
+ghost use Rattle.scope.specs.Kinds.{is_symbol_kind, is_label_kind, IsNumberOf};
 
 use entries::give_back;
 use names::NameTable;
@@ -240,8 +243,10 @@ fn push_entry(
     index: u32,
 ) -> Result<(), AllocError>
     ensures entries { OnOk result (entries.new.items ≡ entries.old.items ++ entry ∷ []) }
-    ensures symbols { OnOk result (symbols.new.items ≡ symbols.old.items ++ (if is_symbol_kind entry.kind then index ∷ [] else [])) }
-    ensures labels { OnOk result (labels.new.items ≡ labels.old.items ++ (if is_label_kind entry.kind then index ∷ [] else [])) }
+    ensures symbols { OnOk result
+        (symbols.new.items ≡ symbols.old.items ++ (if is_symbol_kind entry.kind then index ∷ [] else [])) }
+    ensures labels { OnOk result
+        (labels.new.items ≡ labels.old.items ++ (if is_label_kind entry.kind then index ∷ [] else [])) }
     ensures same_entries { OnErr result (entries.new.items ≡ entries.old.items) }
     ensures same_symbols { OnErr result (symbols.new.items ≡ symbols.old.items) }
     ensures same_labels { OnErr result (labels.new.items ≡ labels.old.items) }

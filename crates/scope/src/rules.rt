@@ -1,7 +1,8 @@
 //! The state from which the rules are decided: the stacks of the active variables and of those with
 //! an active `$f`, the number of active `$f`, `$e` and `$d`, and all three sizes at the start of
 //! each open block.
-ghost use Rattle.std.specs.Prelude.{◌≡◌, ◌++◌, ◌∷◌, [], length, not, nat_lt, take, None, IfOk, IfSome, OnOk, IsTrue};
+ghost use Rattle.std.specs.Prelude.{◌≡◌, ◌++◌, ◌∷◌, [], length, not, nat_lt, take, None, IfOk};
+ghost use Rattle.std.specs.Prelude.{IfSome, OnOk, IsTrue};
 ghost use Rattle.scope.specs.Active.{active, is_closed, count, is_open, is_close};
 ghost use Rattle.scope.specs.Kinds.{IsNumberingOf};
 ghost use Rattle.scope.specs.Legal.{broken_rule, end_rule};
@@ -90,7 +91,8 @@ impl Rules {
         ensures marked { self.new.marked ≡ self.old.marked }
         // The `$f`, `$e` and `$d` that are active at the mark are a prefix of those that were
         // active before the call.
-        ensures frame_statements { take (length (frame_statements_of self.old.marked)) (frame_statements_of self.old.statements) ≡ frame_statements_of self.old.marked }
+        ensures frame_statements { take (length (frame_statements_of self.old.marked))
+            (frame_statements_of self.old.statements) ≡ frame_statements_of self.old.marked }
     {
         self.variables.truncate(self.mark.variables);
         self.typed.truncate(self.mark.typed);
@@ -169,7 +171,8 @@ impl Rules {
         requires numbering { IsNumberingOf self.now.statements names.now }
         requires empty { AreRecorded (symbols_of self.now.statements) [] recorded.old }
         ensures rule { result ≡ broken_rule self.now.statements stmt.now }
-        ensures recorded { result ≡ None → AreRecorded (symbols_after self.now.statements stmt.now) (symbols_in stmt.now) recorded.new }
+        ensures recorded { result ≡ None
+            → AreRecorded (symbols_after self.now.statements stmt.now) (symbols_in stmt.now) recorded.new }
     {
         let checker = RuleChecker {
             rules: self,

@@ -1,5 +1,6 @@
 //! The statements accepted so far, and which of them are active.
-ghost use Rattle.std.specs.Prelude.{◌≡◌, ◌+◌, ◌<◌, ◌^◌, ◌++◌, ◌∷◌, [], List, length, OnOk, OnErr, IfOk, IfErr, IfSome, IsTrue, None};
+ghost use Rattle.std.specs.Prelude.{◌≡◌, ◌+◌, ◌<◌, ◌^◌, ◌++◌, ◌∷◌, [], List, length, OnOk, OnErr};
+ghost use Rattle.std.specs.Prelude.{IfOk, IfErr, IfSome, IsTrue, None};
 ghost use Rattle.mm_read.specs.Statements.{IsShaped};
 ghost use Rattle.scope.specs.Active.{bare, is_closed};
 ghost use Rattle.scope.specs.Legal.{IsLegal, broken_rule, end_rule};
@@ -223,8 +224,10 @@ fn append_legal(
     ensures marked { rules.new.marked ≡ rules.old.marked }
     ensures numbering { OnOk result (IsNumberingOf (rules.old.statements ++ bare stmt.now ∷ []) names.new) }
     ensures names { (more : Declared) × (names.new ≡ names.old ++ more) }
-    ensures frame_statements { OnOk result (frame_statements.new.items ≡ frame_statements_of (rules.old.statements ++ bare stmt.now ∷ [])) }
-    ensures grows { OnErr result ((more : List FrameStatementView) × (frame_statements.new.items ≡ frame_statements.old.items ++ more)) }
+    ensures frame_statements { OnOk result
+        (frame_statements.new.items ≡ frame_statements_of (rules.old.statements ++ bare stmt.now ∷ [])) }
+    ensures grows { OnErr result
+        ((more : List FrameStatementView) × (frame_statements.new.items ≡ frame_statements.old.items ++ more)) }
 {
     push_frame_statement(frame_statements, alloc, at, stmt)?;
     declare_names(names, alloc, stmt, recorded)?;

@@ -1,5 +1,6 @@
 //! A stack of distinct numbers that finds the index of a number in constant time.
-ghost use Rattle.std.specs.Prelude.{◌≡◌, ◌≢◌, ℕ, [], ◌∷◌, ◌++◌, ◌==◌, false, take, length, slice_get, is_some, Some, IfOk, IfSome, OnOk, OnErr};
+ghost use Rattle.std.specs.Prelude.{◌≡◌, ◌≢◌, ℕ, [], ◌∷◌, ◌++◌, ◌==◌, false, take, length};
+ghost use Rattle.std.specs.Prelude.{slice_get, is_some, Some, IfOk, IfSome, OnOk, OnErr};
 ghost use Rattle.std.specs.List.{list_any};
 
 use entries::give_back;
@@ -109,7 +110,8 @@ impl Stack {
 /// Records the index of a number.
 fn record_index(indexes: &mut Vec<usize>, number: u32, index: usize) -> Result<(), AllocError>
     ensures recorded { OnOk result (slice_get indexes.new.items number ≡ Some index) }
-    ensures others { (n k : ℕ) → n ≢ number → slice_get indexes.old.items n ≡ Some k → slice_get indexes.new.items n ≡ Some k }
+    ensures others { (n k : ℕ) → n ≢ number → slice_get indexes.old.items n ≡ Some k
+        → slice_get indexes.new.items n ≡ Some k }
 {
     if indexes.len() <= number as usize {
         indexes.resize(number as usize + 1, 0)?;

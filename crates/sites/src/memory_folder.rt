@@ -39,7 +39,8 @@ impl Folder for MemoryFolder {
     }
 
     fn write(&mut self, name: &str, bytes: &[u8]) -> Result<(), FolderFault>
-        ensures { OnOk result (files_of self.new.files.items ≡ files_of self.old.files.items ++ (name.now, bytes.now) ∷ []) }
+        ensures { OnOk result
+            (files_of self.new.files.items ≡ files_of self.old.files.items ++ (name.now, bytes.now) ∷ []) }
     {
         let file = WrittenFile {
             name: String::from_str(self.alloc, name)?,

@@ -1,11 +1,13 @@
 //! The cross references of a library.
-ghost use Rattle.std.specs.Prelude.{◌≡◌, ◌+◌, ◌-◌, ◌≤◌, ◌<◌, ◌++◌, ◌∷◌, [], length, get_or, replicate, slice_set, IsTrue, IfOk, OnOk};
+ghost use Rattle.std.specs.Prelude.{◌≡◌, ◌+◌, ◌-◌, ◌≤◌, ◌<◌, ◌++◌, ◌∷◌, [], length, get_or};
+ghost use Rattle.std.specs.Prelude.{replicate, slice_set, IsTrue, IfOk, OnOk};
 ghost use Rattle.frame.specs.Ascending.{Ascends};
 ghost use Rattle.frame.specs.Stored.Hypotheses.{ListsExactly, HasMore, HoldsForSome};
 ghost use Rattle.library.specs.Good.{Good};
 ghost use Rattle.library.specs.Uses.{Cites, Uses, is_axiom};
 ghost use Rattle.sites.specs.References.{AreReferences};
-ghost use Rattle.sites.specs.PassState.{lists_of, AddsAxiom, AreWithin, AreExtendedAt, AreListsOfFirst};
+ghost use Rattle.sites.specs.PassState.{lists_of, AddsAxiom, AreWithin, AreExtendedAt};
+ghost use Rattle.sites.specs.PassState.{AreListsOfFirst};
 
 use crate::citations::cited_at;
 use crate::collector::Collector;
@@ -106,7 +108,8 @@ fn axioms_of_cited(
 ) -> Result<Vec<usize>, AllocError>
     requires axioms { AreWithin (length axioms.now) cited.now }
     requires statements { length axioms.now ≤ length statements.now }
-    ensures { IfOk result (λ list. ListsExactly (HoldsForSome (AddsAxiom statements.now (lists_of axioms.now)) cited.now) list.items) }
+    ensures { IfOk result
+        (λ list. ListsExactly (HoldsForSome (AddsAxiom statements.now (lists_of axioms.now)) cited.now) list.items) }
 {
     collector.begin_round()?;
     for position in cited {
@@ -125,7 +128,8 @@ fn add_axioms_of(
 ) -> Result<(), AllocError>
     requires axioms { (0 < position) × (position ≤ length axioms.now) }
     requires statements { length axioms.now ≤ length statements.now }
-    ensures { OnOk result (HasMore (AddsAxiom statements.now (lists_of axioms.now) position) collector.old collector.new) }
+    ensures { OnOk result
+        (HasMore (AddsAxiom statements.now (lists_of axioms.now) position) collector.old collector.new) }
 {
     add_if_axiom(&statements[position - 1], position, collector)?;
     collector.add_all(axioms[position - 1].as_slice())
@@ -137,7 +141,8 @@ fn add_if_axiom(
     position: usize,
     collector: &mut Collector,
 ) -> Result<(), AllocError>
-    ensures { OnOk result (HasMore (λ p. IsTrue (is_axiom statement.now) × (p ≡ position)) collector.old collector.new) }
+    ensures { OnOk result
+        (HasMore (λ p. IsTrue (is_axiom statement.now) × (p ≡ position)) collector.old collector.new) }
 {
     match statement {
         Stmt::Axiom { .. } => collector.add(position),

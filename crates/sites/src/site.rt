@@ -1,7 +1,9 @@
 //! Writes the files of a site.
-ghost use Rattle.std.specs.Prelude.{◌≡◌, ℕ, ◌+◌, ◌<◌, ◌∷◌, [], length, get_or, option_map, codes, OnOk};
+ghost use Rattle.std.specs.Prelude.{◌≡◌, ℕ, ◌+◌, ◌<◌, ◌∷◌, [], length, get_or, option_map, codes};
+ghost use Rattle.std.specs.Prelude.{OnOk};
 ghost use Rattle.mm_read.specs.declared.stmt.Stmt.TheVariants.{Open};
-ghost use Rattle.sites.specs.SiteFiles.{WritesNamed, page_file_of_label, page_file, page_files, site_files};
+ghost use Rattle.sites.specs.SiteFiles.{WritesNamed, page_file_of_label, page_file, page_files};
+ghost use Rattle.sites.specs.SiteFiles.{site_files};
 
 use crate::assertion_page::{PageSources, push_page};
 use crate::progress::print_progress;

@@ -1,5 +1,6 @@
 //! A page: 256 slots, each empty or with an entry.
-ghost use Rattle.std.specs.Prelude.{◌≡◌, ◌<◌, ◌≤◌, ◌-◌, ◌++◌, vec_capacity, Some, None, IfOk, length, slice_set, replicate, MatchOption};
+ghost use Rattle.std.specs.Prelude.{◌≡◌, ◌<◌, ◌≤◌, ◌-◌, ◌++◌, vec_capacity, Some, None, IfOk};
+ghost use Rattle.std.specs.Prelude.{length, slice_set, replicate, MatchOption};
 ghost use Rattle.slots.specs.FiniteMap.{entry_at};
 
 use std::alloc::{AllocError, Global};
@@ -38,7 +39,8 @@ impl<T: Drop> Page<T> {
     /// Returns the entry at a slot of the page, or `None` if the slot is empty.
     pub fn get(&self, slot: usize) -> Option<&T>
         requires { slot < PAGE_SLOTS }
-        ensures { MatchOption result (entry_at self.now slot ≡ None) (λ entry. entry_at self.now slot ≡ Some entry.now) }
+        ensures { MatchOption result (entry_at self.now slot ≡ None)
+            (λ entry. entry_at self.now slot ≡ Some entry.now) }
     {
         match self.slots.get(slot) {
             Some(entry) => entry.as_ref(),

@@ -1,5 +1,6 @@
 //! A list of pages, seen as one list of slots.
-ghost use Rattle.std.specs.Prelude.{◌≡◌, ◌<◌, ◌*◌, ◌++◌, [], Some, None, IfOk, OnOk, OnErr, length, slice_set, replicate, MatchOption};
+ghost use Rattle.std.specs.Prelude.{◌≡◌, ◌<◌, ◌*◌, ◌++◌, [], Some, None, IfOk, OnOk, OnErr, length};
+ghost use Rattle.std.specs.Prelude.{slice_set, replicate, MatchOption};
 ghost use Rattle.slots.specs.FiniteMap.{entry_at};
 ghost use Rattle.slots.specs.Stored.Pages.{joined, AreFullSize};
 
@@ -56,7 +57,8 @@ impl<T: Drop> Pages<T> {
     /// Returns the entry at a slot, or `None` if the slot is empty.
     pub fn get(&self, slot: usize) -> Option<&T>
         requires { slot < length self.now }
-        ensures { MatchOption result (entry_at self.now slot ≡ None) (λ entry. entry_at self.now slot ≡ Some entry.now) }
+        ensures { MatchOption result (entry_at self.now slot ≡ None)
+            (λ entry. entry_at self.now slot ≡ Some entry.now) }
     {
         let page = &self.pages[slot / PAGE_SLOTS];
         page.get(slot % PAGE_SLOTS)

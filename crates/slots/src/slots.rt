@@ -1,5 +1,6 @@
 //! The finite map from slots to entries.
-ghost use Rattle.std.specs.Prelude.{◌≡◌, ◌<◌, ◌≤◌, ◌+◌, ◌↔◌, [], drop, max, IsTrue, IsOk, OnOk, OnErr, Some, None, length, MatchOption};
+ghost use Rattle.std.specs.Prelude.{◌≡◌, ◌<◌, ◌≤◌, ◌+◌, ◌↔◌, [], drop, max, IsTrue, IsOk, OnOk};
+ghost use Rattle.std.specs.Prelude.{OnErr, Some, None, length, MatchOption};
 ghost use Rattle.slots.specs.FiniteMap.{entry_at, put_at, front_of, top_of};
 
 use crate::page::PAGE_SLOTS;
@@ -93,7 +94,8 @@ impl<T: Drop> Slots<T> {
 
     /// Returns the entry at a slot, or `None` if the slot is empty.
     pub fn get(&self, slot: u32) -> Option<&T>
-        ensures { MatchOption result (entry_at self.now.entries slot ≡ None) (λ entry. entry_at self.now.entries slot ≡ Some entry.now) }
+        ensures { MatchOption result (entry_at self.now.entries slot ≡ None)
+            (λ entry. entry_at self.now.entries slot ≡ Some entry.now) }
     {
         if self.has_room(slot) {
             self.pages.get(slot as usize)

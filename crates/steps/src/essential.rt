@@ -4,7 +4,8 @@ ghost use Rattle.std.specs.Prelude.{◌≡◌, suc, ◌<◌, ◌≤◌, [], IfOk
 ghost use Rattle.frame.specs.Below.{AreBelow};
 ghost use Rattle.steps.specs.Rows.{no_row, steps_of, AreRows};
 ghost use Rattle.steps.specs.Essential.{premise_places, AreEssential};
-ghost use Rattle.steps.specs.Stored.Marked.{taken_for_essentials, mark_each, mark_last, AreMarkedFrom, AreMarks};
+ghost use Rattle.steps.specs.Stored.Marked.{taken_for_essentials, mark_each, mark_last};
+ghost use Rattle.steps.specs.Stored.Marked.{AreMarkedFrom, AreMarks};
 
 use crate::steps_table::ProofTable;
 use entries::{Hypotheses, Hypothesis};
@@ -44,7 +45,8 @@ fn premises_of(
     requires at { (1 ≤ at) × (at ≤ length frames.now.statements) }
     requires rows { AreRows frames.now.statements at frames.now.names table.now }
     requires place { place < length table.now }
-    ensures { IfOk result (λ list. list.items ≡ premise_places frames.now.statements (get_or table.now place no_row).step) }
+    ensures { IfOk result
+        (λ list. list.items ≡ premise_places frames.now.statements (get_or table.now place no_row).step) }
 {
     let position = table.position(place);
     match frames.meaning(at, position) {

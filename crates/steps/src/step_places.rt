@@ -31,7 +31,8 @@ pub fn record_place(
     place: usize,
 ) -> Result<(), AllocError>
     ensures own { OnOk result (place_of step_places.new key.items ≡ Some place) }
-    ensures others { OnOk result ((x : List ℕ) → x ≢ key.items → place_of step_places.new x ≡ place_of step_places.old x) }
+    ensures others { OnOk result
+        ((x : List ℕ) → x ≢ key.items → place_of step_places.new x ≡ place_of step_places.old x) }
 {
     step_places.insert(key, place)?;
     Ok(())

@@ -124,7 +124,8 @@ pub fn proof_table(
     ensures rows { IfOk result (λ table. AreRows frames.now.statements at frames.now.names table) }
     ensures last { IfOk result (λ table. (s : Statement) → stmt_at frames.now.statements at ≡ Some s
         → expr_in frames.now.names table (length table - 1) ≡ expr_of s) }
-    ensures derives { IfOk result (λ table. Derives frames.now.statements at items.now (last_unfolded frames.now.statements (steps_of table))) }
+    ensures derives { IfOk result
+        (λ table. Derives frames.now.statements at items.now (last_unfolded frames.now.statements (steps_of table))) }
 {
     let mut draft = TableDraft::new(alloc);
     match run(alloc, frames, at, items, &mut draft)? {

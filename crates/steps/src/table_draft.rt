@@ -40,7 +40,8 @@ pub struct TableDraft {
 impl TableDraft {
     /// Returns a draft without steps.
     pub fn new(alloc: Global) -> TableDraft
-        ensures draft { (S : List Statement) (at : ℕ) (names : List Name) (symbols : List ℕ) → IsDraft S at names symbols result }
+        ensures draft { (S : List Statement) (at : ℕ) (names : List Name) (symbols : List ℕ)
+            → IsDraft S at names symbols result }
         ensures empty { (result.stored.items ≡ []) × (result.stack.items ≡ []) × (result.saved.items ≡ []) }
     {
         TableDraft {
@@ -73,7 +74,8 @@ impl TableDraft {
         taken: Vec<usize>,
         range: SymbolRange,
     ) -> Result<(), AllocError>
-        ensures { OnOk result (CitesStep self.old self.new (record { position = position; taken = taken.items }) range) }
+        ensures { OnOk result
+            (CitesStep self.old self.new (record { position = position; taken = taken.items }) range) }
     {
         let key = step_key(self.alloc, position, &taken)?;
         if let Some(place) = find_place(&self.step_places, &key) {

@@ -1,5 +1,6 @@
 //! A bounded list of symbols.
-ghost use Rattle.std.specs.Prelude.{◌≡◌, [], ◌++◌, ◌+◌, ◌≤◌, ◌↔◌, length, take, IfOk, OnOk, OnErr, IsTrue};
+ghost use Rattle.std.specs.Prelude.{◌≡◌, [], ◌++◌, ◌+◌, ◌≤◌, ◌↔◌, length, take, IfOk, OnOk, OnErr};
+ghost use Rattle.std.specs.Prelude.{IsTrue};
 ghost use Rattle.frame.specs.Substitution.{code_apply};
 ghost use Rattle.subst.specs.Stored.Written.{Appends};
 ghost use Rattle.subst.specs.SymbolRanges.{AreInside, images_at, symbols_in};
@@ -117,7 +118,8 @@ impl Buffer {
     ) -> Result<bool, AllocError>
         requires inside { AreInside (length self.old) images.now }
         requires bound { length self.old + limit ≤ SYMBOLS_LIMIT }
-        ensures ok { IfOk result (λ ok. Appends ok limit self.old self.new (code_apply (images_at self.old images.now) expr.now)) }
+        ensures ok { IfOk result
+            (λ ok. Appends ok limit self.old self.new (code_apply (images_at self.old images.now) expr.now)) }
         ensures err { OnErr result (self.new ≡ self.old) }
     {
         let Some(end) = write_applied(&mut self.symbols, self.len, images, expr) else {
@@ -141,7 +143,8 @@ impl Buffer {
     ) -> Result<bool, AllocError>
         requires inside { AreInside (length self.old) images.now }
         requires bound { length self.old + limit ≤ SYMBOLS_LIMIT }
-        ensures ok { IfOk result (λ ok. Appends ok limit self.old self.new (code_apply (images_at self.old images.now) expr.now)) }
+        ensures ok { IfOk result
+            (λ ok. Appends ok limit self.old self.new (code_apply (images_at self.old images.now) expr.now)) }
         ensures err { OnErr result (self.new ≡ self.old) }
     {
         let Some(len) = applied_len(self.as_slice(), images, expr, limit) else {

@@ -1,5 +1,6 @@
 //! Copies symbols within one buffer, many at once.
-ghost use Rattle.std.specs.Prelude.{◌≡◌, ◌+◌, ◌<◌, ◌≤◌, ◌++◌, ◌∷◌, [], length, take, drop, IfSome, IfNone};
+ghost use Rattle.std.specs.Prelude.{◌≡◌, ◌+◌, ◌<◌, ◌≤◌, ◌++◌, ◌∷◌, [], length, take, drop, IfSome};
+ghost use Rattle.std.specs.Prelude.{IfNone};
 ghost use Rattle.subst.specs.Stored.Written.{IsWritten};
 ghost use Rattle.subst.specs.SymbolRanges.{symbols_in};
 

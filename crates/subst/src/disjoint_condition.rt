@@ -18,7 +18,8 @@ use mm_lex::Words;
 /// Source: Metamath, 4.2.6.
 pub fn disjoint(subst: &Subst, frame: &Frame, pairs: &Pairs<'_>) -> bool
     requires { AreOver pairs.now.names subst.now }
-    ensures { result ≡ are_groups_disjoint pairs.now.statements (images_of_names pairs.now.names subst.now) frame.now.groups }
+    ensures { result ≡ are_groups_disjoint pairs.now.statements
+        (images_of_names pairs.now.names subst.now) frame.now.groups }
 {
     let groups = frame.groups();
     groups
@@ -39,7 +40,8 @@ fn is_group_disjoint(subst: &Subst, pairs: &Pairs<'_>, group: &Words) -> bool
 /// Returns whether the image of x is disjoint from those of the other variables of the group.
 fn is_image_disjoint(subst: &Subst, pairs: &Pairs<'_>, x: &[u8], group: &Words) -> bool
     requires { AreOver pairs.now.names subst.now }
-    ensures { result ≡ is_image_disjoint pairs.now.statements (images_of_names pairs.now.names subst.now) group.now x.now (image_of_name pairs.now.names subst.now x.now) }
+    ensures { result ≡ is_image_disjoint pairs.now.statements
+        (images_of_names pairs.now.names subst.now) group.now x.now (image_of_name pairs.now.names subst.now x.now) }
 {
     group
         .iter()
@@ -50,7 +52,8 @@ fn is_image_disjoint(subst: &Subst, pairs: &Pairs<'_>, x: &[u8], group: &Words) 
 /// no number at the theorem: it is no variable there, and its image is itself.
 fn are_disjoint(subst: &Subst, pairs: &Pairs<'_>, x: &[u8], y: &[u8]) -> bool
     requires { AreOver pairs.now.names subst.now }
-    ensures { result ≡ are_disjoint pairs.now.statements (image_of_name pairs.now.names subst.now x.now) (image_of_name pairs.now.names subst.now y.now) }
+    ensures { result ≡ are_disjoint pairs.now.statements (image_of_name pairs.now.names subst.now x.now)
+        (image_of_name pairs.now.names subst.now y.now) }
 {
     let Some(left) = pairs.number(x) else {
         return true;

@@ -7,7 +7,8 @@ ghost use Rattle.frame.specs.Parts.{Numbered};
 ghost use Rattle.frame.specs.Substitution.{CodeImages};
 ghost use Rattle.names.specs.Codes.{AreDistinct};
 ghost use Rattle.subst.specs.Images.{AreOver, is_numbered_list_disjoint};
-ghost use Rattle.subst.specs.Stored.VariableLists.{AreLists, HasReadOnly, Extends, IsRowOf, ListsOthers};
+ghost use Rattle.subst.specs.Stored.VariableLists.{AreLists, HasReadOnly, Extends, IsRowOf};
+ghost use Rattle.subst.specs.Stored.VariableLists.{ListsOthers};
 ghost use Rattle.subst.specs.SymbolRanges.{AreInside, images_at};
 
 use crate::image_ranges::ImageRanges;
@@ -74,7 +75,8 @@ impl DisjointImages {
         requires number { x < length pairs.now.names }
         requires below { AreBelow (length pairs.now.names) others.now }
         ensures read { OnOk result (HasReadOnly pairs.now (images_at symbols.now images.now) self.new) }
-        ensures disjoint { IfOk result (λ ok. ok ≡ is_numbered_list_disjoint pairs.now (images_at symbols.now images.now) (x ∷ others.now)) }
+        ensures disjoint { IfOk result
+            (λ ok. ok ≡ is_numbered_list_disjoint pairs.now (images_at symbols.now images.now) (x ∷ others.now)) }
     {
         let own = self.images.variables_of(pairs, symbols, images, x)?;
         if own.start == own.end {
@@ -104,7 +106,8 @@ impl DisjointImages {
         requires below { AreBelow (length pairs.now.names) others.now }
         ensures lists { OnOk result (AreLists pairs.now (images_at symbols.now images.now) self.new.images) }
         ensures kept { OnOk result (Extends self.old.images.variables.items self.new.images.variables.items) }
-        ensures others { OnOk result (ListsOthers pairs.now (images_at symbols.now images.now) x others.now self.new.others.items) }
+        ensures others { OnOk result
+            (ListsOthers pairs.now (images_at symbols.now images.now) x others.now self.new.others.items) }
     {
         self.others.clear();
         for other in others {
@@ -132,7 +135,8 @@ fn are_pairs(
 ) -> Result<bool, AllocError>
     requires variables { AreBelow (length pairs.now.names) variables.now }
     requires others { AreBelow (length pairs.now.names) others.now }
-    ensures { IfOk result (λ ok. ok ≡ list_all (λ u. list_all (is_numbered_pair pairs.now u) others.now) variables.now) }
+    ensures { IfOk result
+        (λ ok. ok ≡ list_all (λ u. list_all (is_numbered_pair pairs.now u) others.now) variables.now) }
 {
     let mut all = true;
     for variable in variables {

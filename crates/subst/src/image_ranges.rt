@@ -1,5 +1,6 @@
 //! Images that are ranges of a buffer, by the number of their symbol.
-ghost use Rattle.std.specs.Prelude.{◌≡◌, ℕ, ◌<◌, ◌≤◌, ◌++◌, [], ◌==◌, ◌^◌, nat_eq, if◌then◌else◌, List, length, replicate, slice_set, Some, OnOk, OnErr};
+ghost use Rattle.std.specs.Prelude.{◌≡◌, ℕ, ◌<◌, ◌≤◌, ◌++◌, [], ◌==◌, ◌^◌, nat_eq, if◌then◌else◌};
+ghost use Rattle.std.specs.Prelude.{List, length, replicate, slice_set, Some, OnOk, OnErr};
 ghost use Rattle.std.specs.Map.{lookup};
 ghost use Rattle.subst.specs.declared.symbol_range.SymbolRange.{SymbolRange};
 
@@ -27,7 +28,8 @@ pub(crate) struct ImageTable<'a> {
 
 impl<'a> Model for ImageTable<'a> {
     ghost use Rattle.std.specs.Prelude.{ℕ, ◌≤◌, List, length};
-    ghost use Rattle.subst.{specs.declared.symbol_range.SymbolRange.SymbolRange, specs.Stored.ImageTables.images_in_round};
+    ghost use Rattle.subst.specs.declared.symbol_range.SymbolRange.{SymbolRange};
+    ghost use Rattle.subst.specs.Stored.ImageTables.{images_in_round};
 
     ghost Value = { List (ℕ × SymbolRange) };
 
@@ -110,7 +112,8 @@ impl ImageRanges {
     /// if it has to grow.
     #[inline(always)]
     pub fn set(&mut self, symbol: u32, range: SymbolRange) -> Result<(), AllocError>
-        ensures ok { OnOk result ((x : ℕ) → lookup (nat_eq x) self.new ≡ (if x == symbol then Some range else lookup (nat_eq x) self.old)) }
+        ensures ok { OnOk result
+            ((x : ℕ) → lookup (nat_eq x) self.new ≡ (if x == symbol then Some range else lookup (nat_eq x) self.old)) }
         ensures same { OnErr result (self.new ≡ self.old) }
     {
         let index = symbol as usize;
@@ -174,7 +177,8 @@ fn widen(
     requires ranges { length rounds.old.items ≤ length ranges.old.items }
     ensures ranges { (more : List SymbolRange) × (ranges.new.items ≡ ranges.old.items ++ more) }
     ensures ok { OnOk result ((more : ℕ) × (rounds.new.items ≡ rounds.old.items ++ replicate more 0)) }
-    ensures there { OnOk result ((index < length rounds.new.items) × (length rounds.new.items ≤ length ranges.new.items)) }
+    ensures there { OnOk result
+        ((index < length rounds.new.items) × (length rounds.new.items ≤ length ranges.new.items)) }
     ensures err { OnErr result (rounds.new.items ≡ rounds.old.items) }
 {
     let count = 2 * index + SPARE;

@@ -1,5 +1,6 @@
 //! Images of symbols, substituted all at once.
-ghost use Rattle.std.specs.Prelude.{◌≡◌, ℕ, [], ◌∷◌, ◌==◌, ◌++◌, ◌+◌, ◌≤◌, ◌↔◌, take, IsTrue, IfOk, if◌then◌else◌, length, OnOk, OnErr, IfSome, IfNone};
+ghost use Rattle.std.specs.Prelude.{◌≡◌, ℕ, [], ◌∷◌, ◌==◌, ◌++◌, ◌+◌, ◌≤◌, ◌↔◌, take, IsTrue, IfOk};
+ghost use Rattle.std.specs.Prelude.{if◌then◌else◌, length, OnOk, OnErr, IfSome, IfNone};
 ghost use Rattle.frame.specs.Substitution.{code_apply, code_image};
 ghost use Rattle.subst.specs.declared.buffer.TheConstants.{SYMBOLS_LIMIT};
 
@@ -53,7 +54,8 @@ impl Subst {
     /// have more than `SYMBOLS_LIMIT` symbols together. All images are then unchanged.
     /// Cost: the symbols of the image; a copy of the table or of the buffer that has to grow.
     pub fn set(&mut self, symbol: u32, image: &[u32]) -> Result<(), AllocError>
-        ensures ok { OnOk result ((x : ℕ) → code_image self.new x ≡ (if x == symbol then image.now else code_image self.old x)) }
+        ensures ok { OnOk result
+            ((x : ℕ) → code_image self.new x ≡ (if x == symbol then image.now else code_image self.old x)) }
         ensures same { OnErr result (self.new ≡ self.old) }
     {
         let start = self.symbols.len();

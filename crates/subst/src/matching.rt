@@ -1,6 +1,7 @@
 //! Compares symbols of a buffer with an expression with all images substituted, without writing the
 //! latter.
-ghost use Rattle.std.specs.Prelude.{◌≡◌, ℕ, ◌∷◌, ◌++◌, ◌↔◌, ◌<◌, ◌≤◌, [], List, length, take, slice_range, IfSome, IfNone, IsTrue};
+ghost use Rattle.std.specs.Prelude.{◌≡◌, ℕ, ◌∷◌, ◌++◌, ◌↔◌, ◌<◌, ◌≤◌, [], List, length, take};
+ghost use Rattle.std.specs.Prelude.{slice_range, IfSome, IfNone, IsTrue};
 ghost use Rattle.frame.specs.Substitution.{code_apply};
 ghost use Rattle.subst.specs.SymbolRanges.{AreInside, image_at, images_at, symbols_in};
 
@@ -48,8 +49,11 @@ fn have_same_prefix(left: &[u32], right: &[u32], len: usize) -> bool
 fn skip_range(symbols: &[u32], range: SymbolRange, at: usize, end: usize) -> Option<usize>
     requires image { (range.start ≤ range.end) × (range.end ≤ length symbols.now) }
     requires rest { (at ≤ end) × (end ≤ length symbols.now) }
-    ensures some { IfSome result (λ next. (next ≤ end) × (slice_range symbols.now at end ≡ symbols_in symbols.now range ++ slice_range symbols.now next end)) }
-    ensures none { IfNone result ((more : List ℕ) → slice_range symbols.now at end ≡ symbols_in symbols.now range ++ more → ⊥) }
+    ensures some { IfSome result
+        (λ next. (next ≤ end)
+        × (slice_range symbols.now at end ≡ symbols_in symbols.now range ++ slice_range symbols.now next end)) }
+    ensures none { IfNone result
+        ((more : List ℕ) → slice_range symbols.now at end ≡ symbols_in symbols.now range ++ more → ⊥) }
 {
     let len = (range.end - range.start) as usize;
     if end - at < len {
@@ -74,8 +78,12 @@ fn skip_image(
 ) -> Option<usize>
     requires inside { AreInside (length symbols.now) images.now }
     requires rest { (at ≤ end) × (end ≤ length symbols.now) }
-    ensures some { IfSome result (λ next. (next ≤ end) × (slice_range symbols.now at end ≡ image_at symbols.now images.now symbol ++ slice_range symbols.now next end)) }
-    ensures none { IfNone result ((more : List ℕ) → slice_range symbols.now at end ≡ image_at symbols.now images.now symbol ++ more → ⊥) }
+    ensures some { IfSome result
+        (λ next. (next ≤ end)
+        × (slice_range symbols.now at end ≡ image_at symbols.now images.now symbol
+        ++ slice_range symbols.now next end)) }
+    ensures none { IfNone result
+        ((more : List ℕ) → slice_range symbols.now at end ≡ image_at symbols.now images.now symbol ++ more → ⊥) }
 {
     match images.get(symbol) {
         Some(range) => skip_range(symbols, range, at, end),

@@ -98,7 +98,8 @@ impl SymbolSet {
     /// Errors: an allocation fails.
     #[inline(always)]
     pub(crate) fn add_all(&mut self, list: &[u32]) -> Result<(), AllocError>
-        ensures { OnOk result ((x : ℕ) → has_symbol self.new x ≡ (list_any (λ c. x == c) list.now || has_symbol self.old x)) }
+        ensures { OnOk result
+            ((x : ℕ) → has_symbol self.new x ≡ (list_any (λ c. x == c) list.now || has_symbol self.old x)) }
     {
         for symbol in list {
             self.add(*symbol)?;

@@ -69,7 +69,8 @@ impl VariableLists {
         requires number { symbol < length pairs.now.names }
         ensures lists { OnOk result (AreLists pairs.now (images_at symbols.now images.now) self.new) }
         ensures kept { OnOk result (Extends self.old.variables.items self.new.variables.items) }
-        ensures range { IfOk result (IsListOf pairs.now self.new.variables.items (code_image (images_at symbols.now images.now) symbol)) }
+        ensures range { IfOk result
+            (IsListOf pairs.now self.new.variables.items (code_image (images_at symbols.now images.now) symbol)) }
     {
         if let Some(range) = self.lists.get(symbol) {
             return Ok(range);
@@ -92,7 +93,8 @@ impl VariableLists {
     fn add_variables(&mut self, pairs: &Pairs<'_>, symbols: &[u32]) -> Result<(), AllocError>
         requires { AreBelow (length pairs.now.names) symbols.now }
         ensures lists { self.new.lists ≡ self.old.lists }
-        ensures added { OnOk result (AppendsVariables pairs.now symbols.now self.old.variables.items self.new.variables.items) }
+        ensures added { OnOk result
+            (AppendsVariables pairs.now symbols.now self.old.variables.items self.new.variables.items) }
     {
         self.met.clear();
         for symbol in symbols {

@@ -1,5 +1,6 @@
 //! Two variables of an assertion whose images violate the disjoint variable condition.
-ghost use Rattle.std.specs.Prelude.{◌≡◌, ◌==◌, ◌&&◌, ◌<◌, length, not, true, false, IfOk, MatchOption, OnOk};
+ghost use Rattle.std.specs.Prelude.{◌≡◌, ◌==◌, ◌&&◌, ◌<◌, length, not, true, false, IfOk};
+ghost use Rattle.std.specs.Prelude.{MatchOption, OnOk};
 ghost use Rattle.std.specs.List.{list_all, list_any};
 ghost use Rattle.frame.specs.Below.{AllBelow, AreBelow};
 ghost use Rattle.frame.specs.ListsOfPairs.{is_numbered_pair};
@@ -156,7 +157,9 @@ fn first_unpaired(
 ) -> Result<Option<(u32, u32)>, AllocError>
     requires variables { AreBelow (length pairs.now.names) variables.now }
     requires others { AreBelow (length pairs.now.names) others.now }
-    ensures { IfOk result (λ found. MatchOption found (list_all (λ u. list_all (is_numbered_pair pairs.now u) others.now) variables.now ≡ true)
+    ensures { IfOk result
+        (λ found. MatchOption found
+        (list_all (λ u. list_all (is_numbered_pair pairs.now u) others.now) variables.now ≡ true)
         (λ r. (has_number variables.now r.0 ≡ true) × (has_number others.now r.1 ≡ true) × (is_numbered_pair pairs.now r.0 r.1 ≡ false))) }
 {
     for variable in variables {
@@ -190,7 +193,9 @@ fn first_with(
     symbol: u32,
 ) -> Option<u32>
     requires { AreInside (length symbols.now) images.now }
-    ensures { MatchOption result (list_any (λ y. not (x == y) && has_number (code_image (images_at symbols.now images.now) y) symbol) others.now ≡ false)
+    ensures { MatchOption result
+        (list_any (λ y. not (x == y) && has_number (code_image (images_at symbols.now images.now) y) symbol) others.now
+        ≡ false)
         (λ y. (has_number others.now y ≡ true) × ((x == y) ≡ false) × (has_number (code_image (images_at symbols.now images.now) y) symbol ≡ true)) }
 {
     for other in others {

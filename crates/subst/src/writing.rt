@@ -22,8 +22,11 @@ pub fn write_applied(
 ) -> Option<usize>
     requires within { AreInside at images.now }
     requires inside { at ≤ length symbols.old }
-    ensures some { IfSome result (IsWritten symbols.old symbols.new at (code_apply (images_at (take at symbols.old) images.now) expr.now)) }
-    ensures none { IfNone result (LacksRoom (length symbols.old) at (length expr.now) (code_apply (images_at (take at symbols.old) images.now) expr.now)) }
+    ensures some { IfSome result
+        (IsWritten symbols.old symbols.new at (code_apply (images_at (take at symbols.old) images.now) expr.now)) }
+    ensures none { IfNone result
+        (LacksRoom (length symbols.old) at (length expr.now)
+        (code_apply (images_at (take at symbols.old) images.now) expr.now)) }
     ensures kept { take at symbols.new ≡ take at symbols.old }
     ensures count { length symbols.new ≡ length symbols.old }
 {
@@ -53,7 +56,8 @@ pub fn applied_len(
     room: usize,
 ) -> Option<usize>
     requires { AreInside (length symbols.now) images.now }
-    ensures some { IfSome result (λ len. (len ≡ length (code_apply (images_at symbols.now images.now) expr.now)) × (len ≤ room)) }
+    ensures some { IfSome result
+        (λ len. (len ≡ length (code_apply (images_at symbols.now images.now) expr.now)) × (len ≤ room)) }
     ensures none { IfNone result (room < length (code_apply (images_at symbols.now images.now) expr.now)) }
 {
     let table = images.table();

@@ -3,7 +3,8 @@
 ghost use Rattle.std.specs.Prelude.{◌≡◌, Some, false};
 ghost use Rattle.std.specs.Result.{ForOk};
 ghost use Rattle.net.specs.KeptPart.{node_of};
-ghost use Rattle.switch.specs.Switch.{IsEffectUnlessDown, Plays, pending_on_failure, is_down_at, world_of};
+ghost use Rattle.switch.specs.Switch.{IsEffectUnlessDown, Plays, pending_on_failure, is_down_at};
+ghost use Rattle.switch.specs.Switch.{world_of};
 ghost use Rattle.switch.specs.LogPrefixes.{EventKeepsPrefixes};
 
 use crate::switch::Switch;
@@ -40,8 +41,10 @@ impl<V: Value, K: Keep<V>> Switch<V, K> {
     /// Plays an event that is not a restart and whose node is up or does not exist.
     fn step(&mut self, event: Event<V>) -> Result<u64, StepFault>
         requires pending { pending_on_failure event ≡ Some event }
-        requires up { ForOk (world_of V.bytes self.old) (λ world. is_down_at self.old.stores (node_of world event) ≡ false) }
-        ensures { ForOk (world_of V.bytes self.old) (λ world. IsEffectUnlessDown V.bytes world self.old self.new event result) }
+        requires up { ForOk (world_of V.bytes self.old)
+            (λ world. is_down_at self.old.stores (node_of world event) ≡ false) }
+        ensures { ForOk (world_of V.bytes self.old)
+            (λ world. IsEffectUnlessDown V.bytes world self.old self.new event result) }
     {
         let staged = self.net.stage(event)?;
         let at = staged.at() as usize;

@@ -1,9 +1,12 @@
 //! The store of a node: its keep, and whether the node is up, or down since a call of its keep
 //! failed.
-ghost use Rattle.std.specs.Prelude.{◌≡◌, ◌+◌, Ok, Some, None, length, IfOk, OnOk, OnErr, is_ok, if◌then◌else◌};
+ghost use Rattle.std.specs.Prelude.{◌≡◌, ◌+◌, Ok, Some, None, length, IfOk, OnOk, OnErr, is_ok};
+ghost use Rattle.std.specs.Prelude.{if◌then◌else◌};
 ghost use Rattle.synod.specs.Record.{changed_by};
 ghost use Rattle.net.specs.Staged.{change_in, posts_of};
-ghost use Rattle.switch.specs.NodeStore.{Fails, IsWithOrWithout, pending_change, pending_of, pending_posts, status_of, up, down, with_change, with_pending_change};
+ghost use Rattle.switch.specs.NodeStore.{Fails, IsWithOrWithout, pending_change, pending_of};
+ghost use Rattle.switch.specs.NodeStore.{pending_posts, status_of, up, down, with_change};
+ghost use Rattle.switch.specs.NodeStore.{with_pending_change};
 ghost use Rattle.switch.specs.Switch.{is_down, status_view};
 
 use net::StagedEvent;
@@ -105,7 +108,8 @@ impl<V: Value, K: Keep<V>> NodeStore<V, K> {
         ensures pending { IfOk result (λ parts. parts.0 ≡ pending_of self.old.status) }
         ensures loaded { IfOk result (λ parts. parts.1.kept ≡ (with_pending_change self.old).kept) }
         ensures up { OnOk result (self.new ≡ record (with_pending_change self.old) { status = up }) }
-        ensures failed { OnErr result (Fails self.old (pending_change (pending_of self.old.status)) self.old.status self.new) }
+        ensures failed { OnErr result
+            (Fails self.old (pending_change (pending_of self.old.status)) self.old.status self.new) }
     {
         self.store_pending()?;
         let record = self.keep.load()?;
@@ -115,7 +119,8 @@ impl<V: Value, K: Keep<V>> NodeStore<V, K> {
     /// Stores the change of the pending event, if there is one.
     fn store_pending(&mut self) -> Result<(), Failed>
         ensures stored { OnOk result (self.new ≡ with_pending_change self.old) }
-        ensures failed { OnErr result (Fails self.old (pending_change (pending_of self.old.status)) self.old.status self.new) }
+        ensures failed { OnErr result
+            (Fails self.old (pending_change (pending_of self.old.status)) self.old.status self.new) }
     {
         match &self.status {
             Status::Down(Some(staged)) => store_change(&mut self.keep, staged),

@@ -2,7 +2,8 @@
 ghost use Rattle.std.specs.Prelude.{◌≡◌, Some, true, false};
 ghost use Rattle.std.specs.Result.{ForOk};
 ghost use Rattle.net.specs.declared.event.Event.TheVariants.{Restart};
-ghost use Rattle.switch.specs.Switch.{is_down_at, world_of, IsEffectUnlessDown, IsEffectAtDownNode, CanCommitPending, CommitsPending};
+ghost use Rattle.switch.specs.Switch.{is_down_at, world_of, IsEffectUnlessDown, IsEffectAtDownNode};
+ghost use Rattle.switch.specs.Switch.{CanCommitPending, CommitsPending};
 
 use crate::switch::Switch;
 use net::{Event, Net, StagedEvent, StepFault};
@@ -13,7 +14,8 @@ impl<V: Value, K: Keep<V>> Switch<V, K> {
     /// is no such node.
     pub(crate) fn restart_up(&mut self, k: u8) -> Result<u64, StepFault>
         requires { is_down_at self.old.stores (Some k) ≡ false }
-        ensures { ForOk (world_of V.bytes self.old) (λ world. IsEffectUnlessDown V.bytes world self.old self.new (Restart k) result) }
+        ensures { ForOk (world_of V.bytes self.old)
+            (λ world. IsEffectUnlessDown V.bytes world self.old self.new (Restart k) result) }
     {
         let mut staged = self.net.stage(Event::Restart(k))?;
         let at = staged.at() as usize;
@@ -26,7 +28,8 @@ impl<V: Value, K: Keep<V>> Switch<V, K> {
     /// before the restart.
     pub(crate) fn restart_down(&mut self, k: u8) -> Result<u64, StepFault>
         requires { is_down_at self.old.stores (Some k) ≡ true }
-        ensures { ForOk (world_of V.bytes self.old) (λ world. IsEffectAtDownNode V.bytes world self.old self.new (Restart k) result) }
+        ensures { ForOk (world_of V.bytes self.old)
+            (λ world. IsEffectAtDownNode V.bytes world self.old self.new (Restart k) result) }
     {
         let left = self.net.event_limit() - self.net.history().len() as u64;
         if left < 2 {

@@ -1,5 +1,6 @@
 //! The switch: a net of nodes and packets, and the store of each node.
-ghost use Rattle.std.specs.Prelude.{◌≡◌, ◌<◌, ◌≤◌, Ok, Err, Some, None, [], length, IsOk, IsSome, IfOk, IsOkUnless};
+ghost use Rattle.std.specs.Prelude.{◌≡◌, ◌<◌, ◌≤◌, Ok, Err, Some, None, [], length, IsOk, IsSome};
+ghost use Rattle.std.specs.Prelude.{IfOk, IsOkUnless};
 ghost use Rattle.std.specs.List.{AllByRecursion};
 ghost use Rattle.std.specs.Result.{ForOk};
 ghost use Rattle.slots.specs.declared.slots.TheConstants.{SLOTS};
@@ -7,7 +8,8 @@ ghost use Rattle.synod.specs.Record.{new_kept};
 ghost use Rattle.net.specs.declared.fault.StepFault.TheVariants.{NoNode, Memory};
 ghost use Rattle.net.specs.World.{IsLogEntry};
 ghost use Rattle.net.specs.KeptPart.{node_of};
-ghost use Rattle.switch.specs.Switch.{AreStores, IsPacketResult, is_down_at, new_views, new_stores, world_of};
+ghost use Rattle.switch.specs.Switch.{AreStores, IsPacketResult, is_down_at, new_views, new_stores};
+ghost use Rattle.switch.specs.Switch.{world_of};
 
 use crate::node_store::NodeStore;
 use net::{Event, Net, StepFault};
@@ -48,7 +50,9 @@ impl<V: Value, K: Keep<V>> Switch<V, K> {
     ) -> Result<Self, StepFault>
         requires count { length keeps.items ≡ length weights }
         requires new { AllByRecursion (λ keep. K.kept keep ≡ new_kept) keeps.items }
-        ensures new { IfOk result (λ switch. switch ≡ record { weights = weights; event_limit = event_limit; history = []; stores = new_views K.failures keeps.items }) }
+        ensures new { IfOk result
+            (λ switch. switch
+            ≡ record { weights = weights; event_limit = event_limit; history = []; stores = new_views K.failures keeps.items }) }
         ensures only_memory { IsOkUnless result Memory }
     {
         let net = Net::new(alloc, weights, event_limit)?;

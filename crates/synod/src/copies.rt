@@ -61,7 +61,9 @@ fn copy_slot<V: Value>(
     slot: u32,
 ) -> Result<(), AllocError>
     requires { slot < SLOTS }
-    ensures { OnOk result (copy.new.kept.accepted ≡ with_copied_slot copy.old.kept.accepted slot (entry_at source.now.kept.accepted slot)) }
+    ensures { OnOk result
+        (copy.new.kept.accepted
+        ≡ with_copied_slot copy.old.kept.accepted slot (entry_at source.now.kept.accepted slot)) }
 {
     let Some(entry) = source.get(slot) else {
         return Ok(());

@@ -23,7 +23,8 @@ pub trait Keep<V: Drop>: Drop {
     /// Stores one change. If that fails, the record is the old or the new one.
     fn store(&mut self, change: &Change<V>) -> Result<(), Failed>
         ensures stored { OnOk result (kept self.new ≡ changed (kept self.old) change.now) }
-        ensures failed { OnErr result ((kept self.new ≡ kept self.old) ⊎ (kept self.new ≡ changed (kept self.old) change.now)) }
+        ensures failed { OnErr result
+            ((kept self.new ≡ kept self.old) ⊎ (kept self.new ≡ changed (kept self.old) change.now)) }
         ensures counted { failures self.new ≡ (if is_ok result then failures self.old else failures self.old + 1) };
 
     /// Loads the record. The stored record does not change, even if the load fails.

@@ -1,16 +1,19 @@
 //! Builds the proposals of a new leader: at each slot the value of the highest ballot reported
 //! there.
-ghost use Rattle.std.specs.Prelude.{◌≡◌, ◌<◌, ◌≤◌, ◌+◌, ◌-◌, ◌++◌, [], ◌∷◌, ℕ, List, Option, Some, None, max, min, map, length, OnOk, IfOk, slice_index_or};
+ghost use Rattle.std.specs.Prelude.{◌≡◌, ◌<◌, ◌≤◌, ◌+◌, ◌-◌, ◌++◌, [], ◌∷◌, ℕ, List, Option, Some};
+ghost use Rattle.std.specs.Prelude.{None, max, min, map, length, OnOk, IfOk, slice_index_or};
 ghost use Rattle.std.specs.List.{AllByRecursion};
 ghost use Rattle.slots.specs.declared.slots.TheConstants.{SLOTS};
 ghost use Rattle.synod.specs.declared.packet.SlotReport.{SlotReport};
 ghost use Rattle.synod.specs.Packets.{IsReport, accept_posts};
 ghost use Rattle.std.specs.Option.{option_copied};
-ghost use Rattle.synod.specs.Proposer.{top_or_zero, top_or_first, highest_at, reported_value, proposed_values};
+ghost use Rattle.synod.specs.Proposer.{top_or_zero, top_or_first, highest_at, reported_value};
+ghost use Rattle.synod.specs.Proposer.{proposed_values};
 ghost use Rattle.synod.specs.PromisePages.{joined_pages};
 ghost use Rattle.synod.specs.Node.{pages_from};
 ghost use Rattle.synod.specs.Stored.ReceivedPages.{pages_after_delivery, reports_after_delivery};
-ghost use Rattle.synod.specs.HighestReports.{reports_of_pages, IsHighestTable, as_entries, IsLeadResult};
+ghost use Rattle.synod.specs.HighestReports.{reports_of_pages, IsHighestTable, as_entries};
+ghost use Rattle.synod.specs.HighestReports.{IsLeadResult};
 
 use crate::ballot::Ballot;
 use crate::packet::{Packet, SlotReport};
@@ -53,7 +56,8 @@ fn enter_report<'a, V>(
     first: u32,
     report: &'a SlotReport<V>,
 )
-    ensures highest { (reports : List (SlotReport V)) → IsHighestTable first table.old.items reports → IsHighestTable first table.new.items (reports ++ report.now ∷ []) }
+    ensures highest { (reports : List (SlotReport V)) → IsHighestTable first table.old.items reports
+        → IsHighestTable first table.new.items (reports ++ report.now ∷ []) }
     ensures slots { length table.new.items ≡ length table.old.items }
 {
     if report.slot < first {
@@ -78,7 +82,8 @@ fn enter_page<'a, V>(
     first: u32,
     page: &'a [SlotReport<V>],
 )
-    ensures highest { (reports : List (SlotReport V)) → IsHighestTable first table.old.items reports → IsHighestTable first table.new.items (reports ++ page.now) }
+    ensures highest { (reports : List (SlotReport V)) → IsHighestTable first table.old.items reports
+        → IsHighestTable first table.new.items (reports ++ page.now) }
     ensures slots { length table.new.items ≡ length table.old.items }
 {
     for report in page {
@@ -129,7 +134,10 @@ fn post_reported_values<V: Value>(
     top: u32,
     pages: &[&[SlotReport<V>]],
 ) -> Result<(), AllocError>
-    ensures { OnOk result (posts.new.items ≡ posts.old.items ++ accept_posts me weights.now ballot first (proposed_values (reports_of_pages pages.now) first (top - first))) }
+    ensures { OnOk result
+        (posts.new.items ≡ posts.old.items
+        ++ accept_posts me weights.now ballot first
+        (proposed_values (reports_of_pages pages.now) first (top - first))) }
 {
     let table = highest_reports(alloc, first, top, pages)?;
     let mut slot = first;
@@ -154,7 +162,9 @@ fn add_pages<'a, V: Drop>(
     count: u32,
 ) -> Result<(), AllocError>
     requires { pages.now.node < length pages.now.pages.now }
-    ensures { OnOk result (reports_of_pages all.new.items ≡ reports_of_pages all.old.items ++ joined_pages (pages_from (pages_after_delivery pages.now) node) count) }
+    ensures { OnOk result
+        (reports_of_pages all.new.items ≡ reports_of_pages all.old.items
+        ++ joined_pages (pages_from (pages_after_delivery pages.now) node) count) }
 {
     for page in 0..count {
         if let Some(reports) = pages.get(node, page) {
@@ -190,7 +200,8 @@ fn post_waiting<V: Value>(
     waiting: &[V],
 ) -> Result<(), AllocError>
     requires { top + length waiting.now ≤ SLOTS }
-    ensures { OnOk result (posts.new.items ≡ posts.old.items ++ accept_posts me weights.now ballot top (as_entries waiting.now)) }
+    ensures { OnOk result
+        (posts.new.items ≡ posts.old.items ++ accept_posts me weights.now ballot top (as_entries waiting.now)) }
 {
     let mut slot = top;
     for value in waiting {
@@ -240,7 +251,8 @@ pub(crate) fn lead_posts<V: Value>(
     requires node { pages.now.node < length pages.now.pages.now }
     requires first { first ≤ SLOTS }
     requires reports { AllByRecursion IsReport (reports_after_delivery pages.now heard.now) }
-    ensures { IfOk result (IsLeadResult me weights.now ballot first (reports_after_delivery pages.now heard.now) waiting.now) }
+    ensures { IfOk result
+        (IsLeadResult me weights.now ballot first (reports_after_delivery pages.now heard.now) waiting.now) }
 {
     let all = heard_pages(alloc, pages, heard)?;
     let top = top_of_reports(first, &all);

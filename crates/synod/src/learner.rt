@@ -1,5 +1,6 @@
 //! The learner: the votes that it has counted, and the values that it has learned.
-ghost use Rattle.std.specs.Prelude.{◌≡◌, ◌<◌, ◌≤◌, ℕ, OnOk, Option, Some, None, MatchOption, false, length, slice_index_or};
+ghost use Rattle.std.specs.Prelude.{◌≡◌, ◌<◌, ◌≤◌, ℕ, OnOk, Option, Some, None, MatchOption, false};
+ghost use Rattle.std.specs.Prelude.{length, slice_index_or};
 ghost use Rattle.slots.specs.declared.slots.TheConstants.{SLOTS};
 ghost use Rattle.slots.specs.FiniteMap.{entry_at, put_at, front_of, top_of};
 
@@ -78,7 +79,8 @@ impl<V: Drop> Learner<V> {
 
     /// Returns the value learned at a slot, if there is one.
     pub(crate) fn learned(&self, slot: u32) -> Option<&Option<V>>
-        ensures { MatchOption result (entry_at self.now.state.learned slot ≡ None) (λ value. entry_at self.now.state.learned slot ≡ Some value.now) }
+        ensures { MatchOption result (entry_at self.now.state.learned slot ≡ None)
+            (λ value. entry_at self.now.state.learned slot ≡ Some value.now) }
     {
         self.learned.get(slot)
     }
@@ -111,7 +113,8 @@ impl<V: Drop> Learner<V> {
     /// Returns the voters at a slot under a ballot once `node` is counted.
     pub(crate) fn voters_with(&self, slot: u32, ballot: Ballot, node: u8) -> [bool; MAX_NODES]
         requires { node < MAX_NODES }
-        ensures { (k : ℕ) → slice_index_or result k false ≡ has_voter (counted self.now.state.tallies slot ballot node) slot ballot k }
+        ensures { (k : ℕ) → slice_index_or result k false
+            ≡ has_voter (counted self.now.state.tallies slot ballot node) slot ballot k }
     {
         match self.first_tallies.get(slot) {
             Some(first) => {

@@ -1,5 +1,6 @@
 //! One node: proposer, acceptor and learner at once.
-ghost use Rattle.std.specs.Prelude.{◌≡◌, ◌<◌, ◌≤◌, IfOk, IsOkUnless, IsSome, Ok, Err, Some, None, MatchOption, length};
+ghost use Rattle.std.specs.Prelude.{◌≡◌, ◌<◌, ◌≤◌, IfOk, IsOkUnless, IsSome, Ok, Err, Some, None};
+ghost use Rattle.std.specs.Prelude.{MatchOption, length};
 ghost use Rattle.std.specs.List.{AllByRecursion};
 
 mod accepting;
@@ -57,7 +58,8 @@ impl<V: Value> NodeCore<V> {
     ghost use Rattle.synod.specs.Node.{new_node, unchanged, volatile_step};
     ghost use Rattle.synod.specs.Log.{log_of};
     ghost use Rattle.synod.specs.Proposer.{begin_result, offer_result, offer_waits};
-    ghost use Rattle.synod.specs.Step.{IsNode, PreservesInvariant, on_body, on_packet, reloaded, restarted};
+    ghost use Rattle.synod.specs.Step.{IsNode, PreservesInvariant, on_body, on_packet, reloaded};
+    ghost use Rattle.synod.specs.Step.{restarted};
     ghost use Rattle.synod.specs.Refusals.{IsCallResult};
     ghost use Rattle.synod.specs.Ready.{IsStagingResult, IsReadyFor, staged_node, CanCommit};
     ghost use Rattle.synod.specs.Capacity.{KeepsCapacity};
@@ -289,7 +291,8 @@ impl<V: Value> NodeCore<V> {
 
     /// Returns entry `slot` of the log: the value learned there, if there is no gap below it.
     pub fn entry(&self, slot: u32) -> Option<&Option<V>>
-        ensures entry { MatchOption result (slice_get (log_of self.now.node) slot ≡ None) (λ entry. slice_get (log_of self.now.node) slot ≡ Some entry.now) }
+        ensures entry { MatchOption result (slice_get (log_of self.now.node) slot ≡ None)
+            (λ entry. slice_get (log_of self.now.node) slot ≡ Some entry.now) }
         ensures below { IsSome result → slot < SLOTS }
     {
         if slot < self.learner.first_gap() {

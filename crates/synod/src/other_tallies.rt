@@ -64,7 +64,8 @@ impl OtherTallies {
     pub(crate) fn count_vote(&mut self, slot: u32, ballot: Ballot, node: u8)
         requires node { node < MAX_NODES }
         requires capacity { 0 < self.old.capacity }
-        ensures here { other_tallies_at self.new.votes slot ≡ counted_in (other_tallies_at self.old.votes slot) ballot node }
+        ensures here { other_tallies_at self.new.votes slot
+            ≡ counted_in (other_tallies_at self.old.votes slot) ballot node }
         ensures others { (s : ℕ) → s ≢ slot → other_tallies_at self.new.votes s ≡ other_tallies_at self.old.votes s }
     {
         let voters = self.voters_with(slot, ballot, node);

@@ -96,7 +96,8 @@ fn post_to_node<V: Value>(
     to: u8,
     message: &Broadcast<V>,
 ) -> Result<(), AllocError>
-    ensures { OnOk result (posts.new.items ≡ posts.old.items ++ to_node (is_ask message.now) from to (body_of message.now)) }
+    ensures { OnOk result
+        (posts.new.items ≡ posts.old.items ++ to_node (is_ask message.now) from to (body_of message.now)) }
 {
     if !message.is_ask() {
         return post(posts, from, to, message);

@@ -81,7 +81,8 @@ pub(crate) fn promise_posts<V: Value>(
     ballot: Ballot,
     first: u32,
 ) -> Result<Vec<Packet<V>>, AllocError>
-    ensures { IfOk result (λ posts. posts.items ≡ promise_posts me to ballot (pages_of (reports_from first 0 stored.now.kept.accepted))) }
+    ensures { IfOk result
+        (λ posts. posts.items ≡ promise_posts me to ballot (pages_of (reports_from first 0 stored.now.kept.accepted))) }
 {
     let pages = report_pages(alloc, stored, first)?;
     post_pages(alloc, me, to, ballot, pages)

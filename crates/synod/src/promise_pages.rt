@@ -1,6 +1,7 @@
 //! The pages of promises that a proposer has received, by node and then by index, from 0. The index
 //! of a page is one less than its number in the packet.
-ghost use Rattle.std.specs.Prelude.{◌≡◌, ◌<◌, ◌≤◌, List, OnOk, IfOk, Some, None, MatchOption, length, slice_index_or};
+ghost use Rattle.std.specs.Prelude.{◌≡◌, ◌<◌, ◌≤◌, List, OnOk, IfOk, Some, None, MatchOption};
+ghost use Rattle.std.specs.Prelude.{length, slice_index_or};
 ghost use Rattle.slots.specs.declared.slots.TheConstants.{SLOTS};
 ghost use Rattle.slots.specs.FiniteMap.{entry_at, put_at, front_of};
 ghost use Rattle.synod.specs.declared.packet.SlotReport.{SlotReport};
@@ -76,7 +77,8 @@ impl<V: Drop> ReceivedPages<V> {
 
     /// Returns a page of a node, or `None` if it was not received.
     pub(crate) fn get(&self, node: u8, page: u32) -> Option<&Reports<V>>
-        ensures { MatchOption result (page_of (entries_of self.now) node page ≡ None) (λ reports. page_of (entries_of self.now) node page ≡ Some reports.now) }
+        ensures { MatchOption result (page_of (entries_of self.now) node page ≡ None)
+            (λ reports. page_of (entries_of self.now) node page ≡ Some reports.now) }
     {
         match self.by_node.get(node as usize) {
             Some(pages) => pages.get(page),
@@ -105,7 +107,8 @@ impl<V: Drop> ReceivedPages<V> {
     pub(crate) fn first_missing_with(&self, node: u8, page: u32) -> u32
         requires node { node < length self.now }
         requires page { page < SLOTS }
-        ensures { (reports : List (SlotReport V)) → front_of (put_at (pages_from (entries_of self.now) node) page reports) ≡ result }
+        ensures { (reports : List (SlotReport V))
+            → front_of (put_at (pages_from (entries_of self.now) node) page reports) ≡ result }
     {
         let pages = &self.by_node[node as usize];
         pages.front_with(page)
@@ -117,7 +120,8 @@ impl<V: Drop> ReceivedPages<V> {
 pub(crate) fn first_missing_after<V: Drop>(pages: &ReceivedPages<V>, node: u8, page: u32) -> u32
     requires node { node < length pages.now }
     requires page { page < SLOTS }
-    ensures { (reports : List (SlotReport V)) → front_of (pages_from (with_page (entries_of pages.now) node page reports) node) ≡ result }
+    ensures { (reports : List (SlotReport V))
+        → front_of (pages_from (with_page (entries_of pages.now) node page reports) node) ≡ result }
 {
     if pages.get(node, page).is_some() {
         pages.first_missing(node)
@@ -141,7 +145,8 @@ impl<V: Drop> PagesWithDelivered<'_, V> {
     /// Returns a page of a node, or `None` if it was neither received before nor just delivered.
     pub(crate) fn get(&self, node: u8, page: u32) -> Option<&Reports<V>>
         requires { self.now.node < length self.now.pages.now }
-        ensures { MatchOption result (page_of (pages_after_delivery self.now) node page ≡ None) (λ reports. page_of (pages_after_delivery self.now) node page ≡ Some reports.now) }
+        ensures { MatchOption result (page_of (pages_after_delivery self.now) node page ≡ None)
+            (λ reports. page_of (pages_after_delivery self.now) node page ≡ Some reports.now) }
     {
         let received = self.pages.get(node, page);
         if received.is_some() {

@@ -1,5 +1,6 @@
 //! The proposer: its role, the pages of promises that it has received, and the waiting values.
-ghost use Rattle.std.specs.Prelude.{◌≡◌, ◌<◌, ◌≤◌, ℕ, OnOk, IfOk, Some, false, length, slice_index_or};
+ghost use Rattle.std.specs.Prelude.{◌≡◌, ◌<◌, ◌≤◌, ℕ, OnOk, IfOk, Some, false, length};
+ghost use Rattle.std.specs.Prelude.{slice_index_or};
 
 use crate::ballot::Ballot;
 use crate::packet::Reports;
@@ -256,7 +257,8 @@ impl<V: Drop> Proposer<V> {
     /// Adds the page that completes a promise.
     fn complete_promise(&mut self, heard: Heard, page: u32, reports: Reports<V>)
         requires { CanUpdateProposer self.old (Some (ProposerUpdate.CompletePromise heard page reports)) }
-        ensures { self.new.state ≡ proposer_after self.old.state (Some (ProposerUpdate.CompletePromise heard page reports)) }
+        ensures { self.new.state
+            ≡ proposer_after self.old.state (Some (ProposerUpdate.CompletePromise heard page reports)) }
     {
         self.pages.put(heard.node, page, reports);
         self.heard.push_reserved(heard);

@@ -71,7 +71,8 @@ impl<V: Drop> Ready<V> {
     pub(crate) fn new(node: &NodeCore<V>, staged: StagedUpdates<V>, posts: Vec<Packet<V>>) -> Self
         requires { CanCommit node.now staged }
         ensures before { result.before ≡ node.now }
-        ensures step { result.step ≡ record { node = staged_node node.now.node staged; change = staged.change; posts = posts.items } }
+        ensures step { result.step
+            ≡ record { node = staged_node node.now.node staged; change = staged.change; posts = posts.items } }
     {
         Ready {
             before: GhostValue::of(node),

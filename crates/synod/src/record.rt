@@ -64,7 +64,8 @@ impl<V: Drop> Record<V> {
 
     /// Returns the entry accepted at a slot, if there is one.
     pub fn get(&self, slot: u32) -> Option<&AcceptedEntry<V>>
-        ensures { MatchOption result (entry_at self.now.kept.accepted slot ≡ None) (λ entry. entry_at self.now.kept.accepted slot ≡ Some entry.now) }
+        ensures { MatchOption result (entry_at self.now.kept.accepted slot ≡ None)
+            (λ entry. entry_at self.now.kept.accepted slot ≡ Some entry.now) }
     {
         self.accepted.get(slot)
     }

@@ -1,5 +1,6 @@
 //! The weights of the nodes.
-ghost use Rattle.std.specs.Prelude.{◌≡◌, ◌≤◌, ◌<◌, ◌↔◌, false, length, replicate, slice_index_or, IsSome, IfSome, if◌then◌else◌};
+ghost use Rattle.std.specs.Prelude.{◌≡◌, ◌≤◌, ◌<◌, ◌↔◌, false, length, replicate, slice_index_or};
+ghost use Rattle.std.specs.Prelude.{IsSome, IfSome, if◌then◌else◌};
 ghost use Rattle.synod.specs.Weights.{IsWeights, is_quorum};
 
 use std::marker::Model;

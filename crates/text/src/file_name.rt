@@ -2,7 +2,8 @@
 ghost use Rattle.std.specs.Prelude.{◌≡◌, ◌++◌, if◌then◌else◌, OnOk};
 ghost use Rattle.std.specs.List.{list_any};
 ghost use Rattle.mm_lex.specs.Alphabet.{has_name, name_eq};
-ghost use Rattle.text.specs.FileNames.{escaped_byte, escaped, reserved, plus_if_reserved, is_spelled, label_stem, position_stem, file_name};
+ghost use Rattle.text.specs.FileNames.{escaped_byte, escaped, reserved, plus_if_reserved};
+ghost use Rattle.text.specs.FileNames.{is_spelled, label_stem, position_stem, file_name};
 
 use crate::push_number;
 use mm_lex::is_label;

@@ -6,7 +6,8 @@ ghost use Rattle.scope.specs.Active.{bares};
 ghost use Rattle.scope.specs.Legal.{AllLegal};
 ghost use Rattle.library.specs.Good.{Good};
 ghost use Rattle.library.specs.LibraryOf.{holding};
-ghost use Rattle.unproved.specs.Unproved.{AreUnproved, CauseAt, IsLegalDatabase, IsPositionOf, as_axiom, assumed};
+ghost use Rattle.unproved.specs.Unproved.{AreUnproved, CauseAt, IsLegalDatabase, IsPositionOf};
+ghost use Rattle.unproved.specs.Unproved.{as_axiom, assumed};
 
 use crate::search::{Search, find_unproved};
 use frame::Frames;

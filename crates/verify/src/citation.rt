@@ -4,7 +4,8 @@ ghost use Rattle.std.specs.Prelude.{◌≡◌, List, IfOk};
 ghost use Rattle.mm_lex.specs.Alphabet.{Name};
 ghost use Rattle.proof_code.specs.declared.item.Item.TheVariants.{Cite};
 ghost use Rattle.proof_code.specs.ItemNumbers.{item_of};
-ghost use Rattle.verify.specs.RunsItemByNumber.{AreEntriesIn, IsEntryIn, IsReady, MayCite, IsCitedView};
+ghost use Rattle.verify.specs.RunsItemByNumber.{AreEntriesIn, IsEntryIn, IsReady, MayCite};
+ghost use Rattle.verify.specs.RunsItemByNumber.{IsCitedView};
 ghost use Rattle.subst.specs.Images.{AreOver};
 ghost use Rattle.verify.specs.RunsItemByNumber.{AreNamed, HasCitedIn, RunsItemIn, TellsDisjoint};
 ghost use Rattle.verify.specs.ResultPlaces.{IsKept};
@@ -110,7 +111,8 @@ fn cite(
     buffers: &mut Buffers,
 ) -> Result<bool, AllocError>
     requires may { MayCite context.now position buffers.old.results.results }
-    ensures effect { IfOk result (HasCitedIn context.now (LabelEntry.Assertion position) buffers.old.results buffers.new.results) }
+    ensures effect { IfOk result
+        (HasCitedIn context.now (LabelEntry.Assertion position) buffers.old.results buffers.new.results) }
     ensures kept { IfOk result (λ ok. IsKept ok buffers.old.results buffers.new.results) }
 {
     let cited = context
@@ -141,7 +143,9 @@ fn cite_entry<L: Listener>(
     ensures effect { IfOk result (HasCitedIn context.now entry buffers.old.results buffers.new.results) }
     ensures kept { IfOk result (λ ok. IsKept ok buffers.old.results buffers.new.results) }
     ensures heard { (label : Name) → IsEntryIn context.now label entry
-        → IfOk result (IsHeardIn L.follows context.now (Cite label) buffers.old.results buffers.new.results listener.old listener.new) }
+        → IfOk result
+        (IsHeardIn L.follows context.now
+        (Cite label) buffers.old.results buffers.new.results listener.old listener.new) }
 {
     match entry {
         LabelEntry::Hypothesis(i) => {
@@ -184,7 +188,9 @@ pub fn step<L: Listener>(
         → IfOk result (RunsItemIn context.now (item_of labels number) buffers.old.results buffers.new.results) }
     ensures kept { IfOk result (λ ok. IsKept ok buffers.old.results buffers.new.results) }
     ensures heard { (labels : List Name) → AreEntriesIn context.now labels table.now
-        → IfOk result (IsHeardIn L.follows context.now (item_of labels number) buffers.old.results buffers.new.results listener.old listener.new) }
+        → IfOk result
+        (IsHeardIn L.follows context.now
+        (item_of labels number) buffers.old.results buffers.new.results listener.old listener.new) }
 {
     if number == 0 {
         if !buffers.results.mark()? {

@@ -5,7 +5,8 @@ ghost use Rattle.frame.specs.Below.{AllBelow, AreBelow};
 ghost use Rattle.frame.specs.ListsOfPairs.{is_numbered_pair};
 ghost use Rattle.frame.specs.MandatoryPairs.{pair_lists};
 ghost use Rattle.names.specs.Codes.{AreDistinct};
-ghost use Rattle.subst.specs.Images.{AreOver, are_numbered_lists_disjoint, is_numbered_list_disjoint};
+ghost use Rattle.subst.specs.Images.{AreOver, are_numbered_lists_disjoint};
+ghost use Rattle.subst.specs.Images.{is_numbered_list_disjoint};
 ghost use Rattle.subst.specs.Stored.VariableLists.{HasReadOnly};
 ghost use Rattle.subst.specs.SymbolRanges.{AreInside, images_at};
 
@@ -30,7 +31,8 @@ pub fn are_lists_disjoint(
     requires named { AreOver pairs.now.names (images_at symbols.now images.now) }
     requires inside { AreInside (length symbols.now) images.now }
     requires below { AllBelow (length pairs.now.names) lists.now }
-    ensures { IfOk result (λ ok. ok ≡ are_numbered_lists_disjoint pairs.now (images_at symbols.now images.now) lists.now) }
+    ensures { IfOk result
+        (λ ok. ok ≡ are_numbered_lists_disjoint pairs.now (images_at symbols.now images.now) lists.now) }
 {
     disjoint_images.begin_citation();
     let mut all = true;
@@ -57,7 +59,9 @@ pub fn are_made_lists_disjoint(
     requires inside { AreInside (length symbols.now) images.now }
     requires names { cited.now.names ≡ pairs.now.names }
     requires below { AreBelow (length pairs.now.names) made.old.variables }
-    ensures { IfOk result (λ ok. ok ≡ are_numbered_lists_disjoint pairs.now (images_at symbols.now images.now) (pair_lists (is_numbered_pair cited.now) [] made.old.variables)) }
+    ensures { IfOk result
+        (λ ok. ok ≡ are_numbered_lists_disjoint pairs.now (images_at symbols.now images.now)
+        (pair_lists (is_numbered_pair cited.now) [] made.old.variables)) }
 {
     disjoint_images.begin_citation();
     let mut all = true;
@@ -83,7 +87,8 @@ fn is_list_disjoint(
     requires inside { AreInside (length symbols.now) images.now }
     requires below { AreBelow (length pairs.now.names) list.now }
     ensures read { OnOk result (HasReadOnly pairs.now (images_at symbols.now images.now) disjoint_images.new) }
-    ensures disjoint { IfOk result (λ ok. ok ≡ is_numbered_list_disjoint pairs.now (images_at symbols.now images.now) list.now) }
+    ensures disjoint { IfOk result
+        (λ ok. ok ≡ is_numbered_list_disjoint pairs.now (images_at symbols.now images.now) list.now) }
 {
     match list {
         [variable, others @ ..] => {

@@ -54,8 +54,12 @@ pub(crate) fn run_items<L: Listener>(
     requires entries { (labels : List Name) × AreEntriesIn context.now labels table.now }
     ensures stops { (labels : List Name) → AreEntriesIn context.now labels table.now
         → IfOk result (λ done. StopsIn context.now (items_of labels numbers.now) done buffers.new.results.results) }
-    ensures heard { (labels : List Name) → AreEntriesIn context.now labels table.now → L.follows (walk_start context.now.frames.now context.now.at) listener.old
-        → IfOk result (λ done. L.follows (walk context.now.frames.now context.now.at (take done (items_of labels numbers.now)) buffers.new.results) listener.new) }
+    ensures heard { (labels : List Name) → AreEntriesIn context.now labels table.now
+        → L.follows (walk_start context.now.frames.now context.now.at) listener.old
+        → IfOk result
+        (λ done. L.follows
+        (walk context.now.frames.now context.now.at
+        (take done (items_of labels numbers.now)) buffers.new.results) listener.new) }
 {
     buffers.results.start();
     for (done, number) in numbers.iter().enumerate() {
@@ -81,7 +85,8 @@ pub fn run<L: Listener>(
     requires { (s : Statement) × (stmt_at frames.now.statements at ≡ Some s) }
     ensures legal { HasLegalProperties frames.now.statements frames.now.names }
     ensures outcome { IfOk result (IsOutcome frames.now.statements at frames.now.names items.now) }
-    ensures heard { L.follows (walk_start frames.now at) listener.old → IfOk result (λ outcome. HasHeardAll L.follows frames.now at items.now outcome listener.new) }
+    ensures heard { L.follows (walk_start frames.now at) listener.old
+        → IfOk result (λ outcome. HasHeardAll L.follows frames.now at items.now outcome listener.new) }
 {
     let parts = items.parts();
     let mut table = Vec::new(alloc);
@@ -120,8 +125,11 @@ pub fn first_failure(
     items: &Items,
 ) -> Result<Option<Failure>, AllocError>
     requires { (s : Statement) × IsProvable frames.now.statements at s }
-    ensures right { IfOk result (λ found. MatchOption found (IsRight frames.now.statements at items.now) (λ _. ¬ IsRight frames.now.statements at items.now)) }
-    ensures first { IfOk result (λ found. IfSome found (IsFirstFailure frames.now.statements at frames.now.names items.now)) }
+    ensures right { IfOk result
+        (λ found. MatchOption found (IsRight frames.now.statements at items.now)
+        (λ _. ¬ IsRight frames.now.statements at items.now)) }
+    ensures first { IfOk result
+        (λ found. IfSome found (IsFirstFailure frames.now.statements at frames.now.names items.now)) }
 {
     match run(alloc, frames, at, items, &mut Silent)? {
         Outcome::Right(_) => Ok(None),

@@ -33,7 +33,8 @@ pub enum LabelEntry {
 fn entry_of(frames: &Frames, at: usize, position: Option<usize>) -> LabelEntry
     requires legal { HasLegalProperties frames.now.statements frames.now.names }
     requires place { (1 ≤ at) × (at ≤ length frames.now.statements) }
-    ensures { (label : Name) → IsPosition frames.now.statements label position → IsEntry frames.now.statements at label result }
+    ensures { (label : Name) → IsPosition frames.now.statements label position
+        → IsEntry frames.now.statements at label result }
 {
     let Some(position) = position else {
         return LabelEntry::Nothing;
@@ -77,7 +78,9 @@ pub fn fill_mandatory(
     table: &mut Vec<LabelEntry>,
 ) -> Result<(), AllocError>
     requires { (s : Statement) × IsProvable frames.now.statements at s }
-    ensures mandatory { OnOk result ((s : Statement) → IsProvable frames.now.statements at s → mandatory.new.items ≡ hypotheses (before frames.now.statements at) s) }
+    ensures mandatory { OnOk result
+        ((s : Statement) → IsProvable frames.now.statements at s
+        → mandatory.new.items ≡ hypotheses (before frames.now.statements at) s) }
     ensures entries { OnOk result ((s : Statement) → IsProvable frames.now.statements at s
         → AreEntries frames.now.statements at (mandatory_labels frames.now.statements at s) table.new.items) }
     ensures legal { HasLegalProperties frames.now.statements frames.now.names }
@@ -118,14 +121,18 @@ pub fn add_listed(
     heading: Heading<'_>,
     table: &mut Vec<LabelEntry>,
 ) -> Result<bool, AllocError>
-    requires mandatory { (s : Statement) → IsProvable frames.now.statements at s → mandatory.now ≡ hypotheses (before frames.now.statements at) s }
+    requires mandatory { (s : Statement) → IsProvable frames.now.statements at s
+        → mandatory.now ≡ hypotheses (before frames.now.statements at) s }
     requires legal { HasLegalProperties frames.now.statements frames.now.names }
     requires provable { (s : Statement) × IsProvable frames.now.statements at s }
     requires listed { heading.count ≤ length heading.words }
-    ensures entries { IfOk result (λ ok. IsTrue ok → (front : List Name) → AreEntries frames.now.statements at front table.old.items
+    ensures entries { IfOk result
+        (λ ok. IsTrue ok → (front : List Name) → AreEntries frames.now.statements at front table.old.items
         → AreEntries frames.now.statements at (front ++ take heading.entry.count heading.entry.words) table.new.items) }
     ensures apart { IfOk result (λ ok. (s : Statement) → IsProvable frames.now.statements at s
-        → ok ≡ not (share_label (mandatory_labels frames.now.statements at s) (take heading.entry.count heading.entry.words))) }
+        → ok
+        ≡ not (share_label (mandatory_labels frames.now.statements at s)
+        (take heading.entry.count heading.entry.words))) }
 {
     let mut words = heading.words;
     for _ in 0..heading.count {

@@ -3,12 +3,14 @@
 //! A plan of it is made first, by listening to the run: numbered nodes, each after its children, and
 //! only once however often it is recalled. The plan is measured before the tree is made.
 
-ghost use Rattle.std.specs.Prelude.{◌≡◌, ◌<◌, ◌≤◌, ◌↔◌, [], IsTrue, List, OnOk, IfOk, MatchOption, Some, length, map, slice_get, ◌⊎◌};
+ghost use Rattle.std.specs.Prelude.{◌≡◌, ◌<◌, ◌≤◌, ◌↔◌, [], IsTrue, List, OnOk, IfOk, MatchOption};
+ghost use Rattle.std.specs.Prelude.{Some, length, map, slice_get, ◌⊎◌};
 ghost use Rattle.frame.specs.AtPosition.{HasLabelsOnce};
 ghost use Rattle.mm_read.specs.declared.stmt.Stmt.{Stmt as Statement};
 ghost use Rattle.verify.specs.Derivations.{Derivation, derivation_of};
 ghost use Rattle.verify.specs.Extents.{extent_of};
-ghost use Rattle.verify.specs.Plan.{AddsNode, AreOrdered, IsAfter, IsRightPlan, built, derive, pick};
+ghost use Rattle.verify.specs.Plan.{AddsNode, AreOrdered, IsAfter, IsRightPlan, built, derive};
+ghost use Rattle.verify.specs.Plan.{pick};
 ghost use Rattle.verify.specs.Right.{Derives, IsProvable, IsRight, IsSmall, most_depth, most_nodes};
 
 use crate::answer::TreeFault;
@@ -183,11 +185,13 @@ pub fn derivation(
     requires { (s : Statement) × IsProvable frames.now.statements at s }
     ensures tree { IfOk result (λ tree. Derives frames.now.statements at items.now (derivation_of tree)) }
     ensures small { IfOk result (λ tree. IsSmall (derivation_of tree)) }
-    ensures wrong { ¬ IsRight frames.now.statements at items.now → (result ≡ Err TreeFault.Wrong) ⊎ (result ≡ Err TreeFault.Memory) }
+    ensures wrong { ¬ IsRight frames.now.statements at items.now → (result ≡ Err TreeFault.Wrong)
+        ⊎ (result ≡ Err TreeFault.Memory) }
     ensures only_wrong { result ≡ Err TreeFault.Wrong → ¬ IsRight frames.now.statements at items.now }
     ensures large { (t : Derivation) → Derives frames.now.statements at items.now t → ¬ IsSmall t
         → (result ≡ Err TreeFault.TooLarge) ⊎ (result ≡ Err TreeFault.Memory) }
-    ensures only_large { result ≡ Err TreeFault.TooLarge → (t : Derivation) × Derives frames.now.statements at items.now t × (¬ IsSmall t) }
+    ensures only_large { result ≡ Err TreeFault.TooLarge → (t : Derivation)
+        × Derives frames.now.statements at items.now t × (¬ IsSmall t) }
 {
     let Some(plan) = plan_of(alloc, frames, at, items)? else {
         return Err(TreeFault::Wrong);
@@ -209,7 +213,9 @@ fn plan_of(
 ) -> Result<Option<TreePlan>, AllocError>
     requires { (s : Statement) × IsProvable frames.now.statements at s }
     ensures once { HasLabelsOnce frames.now.statements }
-    ensures planned { IfOk result (λ found. MatchOption found (¬ IsRight frames.now.statements at items.now) (IsRightPlan frames.now.statements at items.now)) }
+    ensures planned { IfOk result
+        (λ found. MatchOption found (¬ IsRight frames.now.statements at items.now)
+        (IsRightPlan frames.now.statements at items.now)) }
 {
     let mut plan = TreePlan::new(alloc);
     match run(alloc, frames, at, items, &mut plan)? {

@@ -1,6 +1,9 @@
 //! The results of a proof so far, as ranges of one buffer.
 
-ghost use Rattle.std.specs.Prelude.{take, List, ℕ, suc, ◌≡◌, ◌<◌, ◌≤◌, ◌↔◌, ◌∷◌, ◌++◌, [], length, slice_get, nat_eq, ◌==◌, Some, is_some, if◌then◌else◌, IfOk, IfSome, OnOk, OnErr, IsTrue, drop, get_or, map, true, MatchOption};
+ghost use Rattle.std.specs.Prelude.{take, List, ℕ, suc, ◌≡◌, ◌<◌, ◌≤◌, ◌↔◌, ◌∷◌, ◌++◌, [], length};
+ghost use Rattle.std.specs.Prelude.{slice_get, nat_eq, ◌==◌, Some, is_some, if◌then◌else◌, IfOk};
+ghost use Rattle.std.specs.Prelude.{IfSome, OnOk, OnErr, IsTrue, drop, get_or, map, true};
+ghost use Rattle.std.specs.Prelude.{MatchOption};
 ghost use Rattle.frame.specs.AtPosition.{HasLegalProperties};
 ghost use Rattle.frame.specs.Below.{AllBelow, AreBelow};
 ghost use Rattle.frame.specs.ListsOfPairs.{is_numbered_pair};
@@ -11,7 +14,8 @@ ghost use Rattle.std.specs.List.{list_all};
 ghost use Rattle.std.specs.Map.{lookup};
 ghost use Rattle.subst.specs.Images.{AreOver, are_numbered_lists_disjoint};
 ghost use Rattle.subst.specs.SymbolRanges.{AreInside, AreWithin, images_at, symbols_in};
-ghost use Rattle.verify.specs.HypothesisResults.{AreDifferent, ArePresent, HasSeenEssentials, LastResultsMatch, Reads, AreGiven};
+ghost use Rattle.verify.specs.HypothesisResults.{AreDifferent, ArePresent, HasSeenEssentials};
+ghost use Rattle.verify.specs.HypothesisResults.{LastResultsMatch, Reads, AreGiven};
 ghost use Rattle.subst.specs.DisjointImages.{are_numbers_disjoint, image_named};
 ghost use Rattle.subst.specs.Violations.{IsViolation};
 ghost use Rattle.verify.specs.ReadPlaces.{BeginsWith, ReadsAll, tail_of};
@@ -172,7 +176,9 @@ impl Results {
         requires different { AreDifferent hypotheses.now }
         ensures same { self.new.results ≡ self.old.results }
         ensures symbols { self.new.symbols ≡ self.old.symbols }
-        ensures read { IfOk result (λ r. Reads (is_some r) typecodes.now hypotheses.now (top (length hypotheses.now) self.old.results.stack) self.new.images) }
+        ensures read { IfOk result
+            (λ r. Reads (is_some r) typecodes.now hypotheses.now
+            (top (length hypotheses.now) self.old.results.stack) self.new.images) }
         ensures essentials { IfOk result (λ r. IfSome r (HasSeenEssentials hypotheses.now)) }
     {
         let places = &self.stack[self.stack.len() - hypotheses.len()..];
@@ -254,7 +260,9 @@ impl Results {
         requires names { cited.now.names ≡ pairs.now.names }
         requires below { AreBelow (length pairs.now.names) made.old.variables }
         ensures same { self.new ≡ self.old }
-        ensures disjoint { IfOk result (λ ok. ok ≡ are_numbered_lists_disjoint pairs.now self.old.images (pair_lists (is_numbered_pair cited.now) [] made.old.variables)) }
+        ensures disjoint { IfOk result
+            (λ ok. ok ≡ are_numbered_lists_disjoint pairs.now self.old.images
+            (pair_lists (is_numbered_pair cited.now) [] made.old.variables)) }
     {
         are_made_lists_disjoint(
             &mut self.disjoint_images,
@@ -274,7 +282,9 @@ impl Results {
     #[inline(always)]
     pub fn apply(&mut self, count: usize, expr: &[u32]) -> Result<bool, AllocError>
         requires { count ≤ length self.old.results.stack }
-        ensures adds { IfOk result (λ ok. Adds ok self.old.results self.new.results (below count self.old.results.stack) (code_apply self.old.images expr.now)) }
+        ensures adds { IfOk result
+            (λ ok. Adds ok self.old.results self.new.results (below count self.old.results.stack)
+            (code_apply self.old.images expr.now)) }
         ensures kept { IfOk result (λ ok. IsKept ok self.old self.new) }
     {
         let keep = self.stack.len() - count;
@@ -361,7 +371,8 @@ impl Results {
     pub fn read_untyped(&mut self, hypotheses: &Hypotheses<'_>) -> Result<(), AllocError>
         requires { length hypotheses.now ≤ length self.old.results.stack }
         ensures same { self.new.results ≡ self.old.results }
-        ensures read { OnOk result (AreGiven hypotheses.now (top (length hypotheses.now) self.old.results.stack) self.new.images) }
+        ensures read { OnOk result
+            (AreGiven hypotheses.now (top (length hypotheses.now) self.old.results.stack) self.new.images) }
     {
         let places = &self.stack[self.stack.len() - hypotheses.len()..];
         read_tails(&mut self.images, hypotheses, places)
@@ -369,7 +380,8 @@ impl Results {
 
     /// Returns the image of a symbol, or `None` if it has none and is its own image.
     pub fn image(&self, symbol: u32) -> Option<&[u32]>
-        ensures { MatchOption result (code_image self.now.images symbol ≡ symbol ∷ []) (λ image. image.now ≡ code_image self.now.images symbol) }
+        ensures { MatchOption result (code_image self.now.images symbol ≡ symbol ∷ [])
+            (λ image. image.now ≡ code_image self.now.images symbol) }
     {
         match self.images.get(symbol) {
             Some(range) => Some(symbols_at(self.symbols.as_slice(), range)),
@@ -452,7 +464,10 @@ fn read_float(
 ) -> Result<bool, AllocError>
     requires { place.end ≤ length symbols.now }
     ensures begins { IfOk result (λ ok. IsTrue ok ↔ BeginsWith symbols.now typecode place) }
-    ensures set { IfOk result (λ ok. IsTrue ok → (y : ℕ) → lookup (nat_eq y) images.new ≡ (if y == variable then Some (tail_of place) else lookup (nat_eq y) images.old)) }
+    ensures set { IfOk result
+        (λ ok. IsTrue ok → (y : ℕ)
+        → lookup (nat_eq y) images.new
+        ≡ (if y == variable then Some (tail_of place) else lookup (nat_eq y) images.old)) }
     ensures inside { (n : ℕ) → place.end ≤ n → AreInside n images.old → AreInside n images.new }
 {
     if place.start >= place.end || symbols[place.start as usize] != typecode {
@@ -483,7 +498,9 @@ fn read_off(
     requires typecodes { length typecodes.now ≡ length hypotheses.now }
     requires within { AreWithin (length symbols.now) places.now }
     requires different { AreDifferent hypotheses.now }
-    ensures ok { IfOk result (λ r. ReadsAll (is_some r) (length hypotheses.now) symbols.now typecodes.now hypotheses.now places.now images.new) }
+    ensures ok { IfOk result
+        (λ r. ReadsAll (is_some r)
+        (length hypotheses.now) symbols.now typecodes.now hypotheses.now places.now images.new) }
     ensures essentials { IfOk result (λ r. IfSome r (HasSeenEssentials hypotheses.now)) }
     ensures inside { (n : ℕ) → AreWithin n places.now → AreInside n images.new }
 {
@@ -528,7 +545,8 @@ fn read_tails(
 ) -> Result<(), AllocError>
     requires same { length places.now ≡ length hypotheses.now }
     requires within { (n : ℕ) × AreWithin n places.now }
-    ensures read { (symbols : List ℕ) → OnOk result (AreGiven hypotheses.now (map (symbols_in symbols) places.now) (images_at symbols images.new)) }
+    ensures read { (symbols : List ℕ)
+        → OnOk result (AreGiven hypotheses.now (map (symbols_in symbols) places.now) (images_at symbols images.new)) }
     ensures inside { (n : ℕ) → AreWithin n places.now → AreInside n images.new }
 {
     images.clear();

@@ -1,8 +1,10 @@
 //! Judging all jobs, in parallel or on the calling thread.
 
-ghost use Rattle.std.specs.Prelude.{◌≡◌, ◌+◌, ◌<◌, ◌≤◌, ◌⊎◌, ◌↔◌, ℕ, [], length, true, false, IfOk, IsTrue};
+ghost use Rattle.std.specs.Prelude.{◌≡◌, ◌+◌, ◌<◌, ◌≤◌, ◌⊎◌, ◌↔◌, ℕ, [], length, true, false, IfOk};
+ghost use Rattle.std.specs.Prelude.{IsTrue};
 ghost use Rattle.verify_pool.specs.Least.{IsBefore, IsLeast};
-ghost use Rattle.verify_pool.specs.Stripes.{AreFound, IsFoundInStripe, IsIn, IsStripeSettled, IsNoLater, IsSettled};
+ghost use Rattle.verify_pool.specs.Stripes.{AreFound, IsFoundInStripe, IsIn, IsStripeSettled};
+ghost use Rattle.verify_pool.specs.Stripes.{IsNoLater, IsSettled};
 
 use crate::checkers::{Checkers, Worker};
 use crate::gate::{Gate, OpenGate, Place};
@@ -168,7 +170,8 @@ fn judge_stripe<W: Work, G: Gate>(
 )
     requires step { (1 ≤ step) × (step ≤ 16) }
     requires first { first < step }
-    ensures { IfOk worker.new.least (λ least. IsFoundInStripe (W.right work.now) (W.count work.now) first step least worker.new.deferred.items) }
+    ensures { IfOk worker.new.least
+        (λ least. IsFoundInStripe (W.right work.now) (W.count work.now) first step least worker.new.deferred.items) }
 {
     worker.deferred.clear();
     worker.least = found_in_stripe(work, first, step, worker, gate);
@@ -188,7 +191,8 @@ fn found_in_stripe<W: Work, G: Gate>(
     requires step { (1 ≤ step) × (step ≤ 16) }
     requires first { first < step }
     requires none { worker.old.deferred.items ≡ [] }
-    ensures { IfOk result (λ least. IsFoundInStripe (W.right work.now) (W.count work.now) first step least worker.new.deferred.items) }
+    ensures { IfOk result
+        (λ least. IsFoundInStripe (W.right work.now) (W.count work.now) first step least worker.new.deferred.items) }
 {
     let count = work.count();
     let mut index = first;
@@ -238,7 +242,8 @@ fn judge_deferred<W: Work>(
     deferred: &[usize],
     checker: &mut Checker,
 ) -> Result<Option<usize>, AllocError>
-    requires { (first : ℕ) × ((step : ℕ) × IsFoundInStripe (W.right work.now) (W.count work.now) first step least deferred.now) }
+    requires { (first : ℕ)
+        × ((step : ℕ) × IsFoundInStripe (W.right work.now) (W.count work.now) first step least deferred.now) }
     ensures { (first step : ℕ) → IsFoundInStripe (W.right work.now) (W.count work.now) first step least deferred.now
         → IfOk result (λ least. IsStripeSettled (W.right work.now) (W.count work.now) first step least) }
 {

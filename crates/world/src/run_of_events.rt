@@ -23,9 +23,13 @@ pub fn run(
     event_limit: u64,
     events: Vec<Event<Entry>>,
 ) -> Result<World, (usize, StepFault)>
-    ensures taken { IfOk result (λ world. world ≡ record { history = record { weights = weights; event_limit = event_limit; events = value_events events.items }; libraries = new_node_libraries weights }) }
-    ensures headline { OnOk result (Headline (record { weights = weights; event_limit = event_limit; events = value_events events.items })) }
-    ensures stops { IfErr result (λ stop. RunStopsAt carried_size weights event_limit (value_events events.items) stop.0 stop.1) }
+    ensures taken { IfOk result
+        (λ world. world
+        ≡ record { history = record { weights = weights; event_limit = event_limit; events = value_events events.items }; libraries = new_node_libraries weights }) }
+    ensures headline { OnOk result
+        (Headline (record { weights = weights; event_limit = event_limit; events = value_events events.items })) }
+    ensures stops { IfErr result
+        (λ stop. RunStopsAt carried_size weights event_limit (value_events events.items) stop.0 stop.1) }
 {
     let mut world = match World::new(alloc, weights, event_limit) {
         Ok(world) => world,

@@ -1,5 +1,6 @@
 //! All nodes, all packets and all libraries, driven by a list of events.
-ghost use Rattle.std.specs.Prelude.{◌≡◌, ◌↔◌, ◌≤◌, ◌<◌, None, Some, Ok, Err, length, slice_get, IfOk, IfErr, IfSome, IsSomeAnd, OnOk, OnErr, IsOk, IsOkUnless};
+ghost use Rattle.std.specs.Prelude.{◌≡◌, ◌↔◌, ◌≤◌, ◌<◌, None, Some, Ok, Err, length, slice_get};
+ghost use Rattle.std.specs.Prelude.{IfOk, IfErr, IfSome, IsSomeAnd, OnOk, OnErr, IsOk, IsOkUnless};
 ghost use Rattle.net.specs.World.{packets_after};
 ghost use Rattle.net.specs.NodeStates.{state_after};
 ghost use Rattle.net.specs.History.{world_of, with_event};
@@ -38,7 +39,8 @@ impl Model for World {
 }
 
 impl World {
-    ghost use Rattle.world.specs.WorldView.{new_world, after_event, next_entry, AreLibrariesOfLogs, IsApplied};
+    ghost use Rattle.world.specs.WorldView.{new_world, after_event, next_entry, AreLibrariesOfLogs};
+    ghost use Rattle.world.specs.WorldView.{IsApplied};
     ghost use Rattle.world.specs.Headline.{Headline};
 
     /// Creates a world of new nodes, each with an empty library. It takes at most `event_limit`
@@ -64,11 +66,14 @@ impl World {
     /// Cost: that of `Net::step`; a restart also drops the library of its node.
     pub fn step(&mut self, event: Event<Entry>) -> Result<u64, StepFault>
         ensures taken { OnOk result (self.new ≡ after_event self.old (value_event event)) }
-        ensures posted { IfOk result (λ count. count ≡ length (packets_after (world_of carried_size self.new.history))) }
+        ensures posted { IfOk result
+            (λ count. count ≡ length (packets_after (world_of carried_size self.new.history))) }
 
         // A fault of the event is returned even if every allocation fails.
-        ensures refused { IfErr (world_of carried_size (with_event self.old.history (value_event event))) (λ fault. result ≡ Err fault) }
-        ensures only_memory { OnOk (world_of carried_size (with_event self.old.history (value_event event))) (IsOkUnless result Memory) }
+        ensures refused { IfErr (world_of carried_size (with_event self.old.history (value_event event)))
+            (λ fault. result ≡ Err fault) }
+        ensures only_memory { OnOk (world_of carried_size (with_event self.old.history (value_event event)))
+            (IsOkUnless result Memory) }
         ensures same { OnErr result (self.new ≡ self.old) }
     {
         let event = to_value_event(event);
@@ -84,7 +89,9 @@ impl World {
     /// Errors: `NoNode` if there is no such node, else `Memory`; the world is then unchanged.
     /// Cost: that of `Library::apply` on the entry.
     pub fn apply_next(&mut self, k: u8) -> Result<Option<Verdict>, StepFault>
-        ensures applied { IfSome (next_entry self.old k) (λ entry. IfOk result (λ answer. IsSomeAnd answer (λ verdict. IsApplied self.old k entry verdict self.new))) }
+        ensures applied { IfSome (next_entry self.old k)
+            (λ entry. IfOk result
+            (λ answer. IsSomeAnd answer (λ verdict. IsApplied self.old k entry verdict self.new))) }
         ensures none { k < length self.old.history.weights → next_entry self.old k ≡ None → result ≡ Ok None }
         ensures no_node { length self.old.history.weights ≤ k → result ≡ Err NoNode }
         ensures only_memory { k < length self.old.history.weights → IsOkUnless result Memory }
@@ -102,7 +109,9 @@ impl World {
     ///
     /// Errors: `NoNode`.
     pub fn library(&self, k: u8) -> Result<&Library, StepFault>
-        ensures library { IfOk result (λ library. IsSomeAnd (slice_get self.now.libraries k) (λ node_library. library.now.replica ≡ node_library.library)) }
+        ensures library { IfOk result
+            (λ library. IsSomeAnd (slice_get self.now.libraries k)
+            (λ node_library. library.now.replica ≡ node_library.library)) }
         ensures no_node { length self.now.history.weights ≤ k → result ≡ Err NoNode }
         ensures node { k < length self.now.history.weights → IsOk result }
         ensures of_logs { AreLibrariesOfLogs self.now }
@@ -149,7 +158,8 @@ impl World {
     ///
     /// Errors: `NoNode`.
     pub fn applied(&self, k: u8) -> Result<u32, StepFault>
-        ensures applied { IfOk result (λ applied. IsSomeAnd (slice_get self.now.libraries k) (λ node_library. applied ≡ node_library.applied)) }
+        ensures applied { IfOk result
+            (λ applied. IsSomeAnd (slice_get self.now.libraries k) (λ node_library. applied ≡ node_library.applied)) }
         ensures no_node { length self.now.history.weights ≤ k → result ≡ Err NoNode }
         ensures node { k < length self.now.history.weights → IsOk result }
     {
@@ -163,8 +173,10 @@ impl World {
     ///
     /// Errors: `NoPacket`.
     pub fn packet(&self, number: u64) -> Result<&Packet<Carried>, StepFault>
-        ensures found { IfOk result (λ packet. slice_get (packets_after (world_of carried_size self.now.history)) number ≡ Some packet.now) }
-        ensures no_packet { (result ≡ Err NoPacket) ↔ (slice_get (packets_after (world_of carried_size self.now.history)) number ≡ None) }
+        ensures found { IfOk result
+            (λ packet. slice_get (packets_after (world_of carried_size self.now.history)) number ≡ Some packet.now) }
+        ensures no_packet { (result ≡ Err NoPacket)
+            ↔ (slice_get (packets_after (world_of carried_size self.now.history)) number ≡ None) }
         ensures only_no_packet { IsOkUnless result NoPacket }
     {
         self.net.packet(number)
@@ -178,7 +190,8 @@ fn apply_next_of_log(
     k: u8,
 ) -> Result<Option<Verdict>, StepFault>
     requires { k < length net.now.history.weights }
-    ensures { AppliesNext node_library.old node_library.new (slice_get (log_entries net.now.history k) node_library.old.applied) result }
+    ensures { AppliesNext node_library.old node_library.new
+        (slice_get (log_entries net.now.history k) node_library.old.applied) result }
 {
     let next = net.entry(k, node_library.applied())?;
     node_library.apply_next(next)

@@ -68,7 +68,8 @@ impl<V: Value> NodeCore<V> {
         value: &Option<V>,
     ) -> Result<Ready<V>, AllocError>
         requires slot { slot < SLOTS }
-        requires preserves { PreservesInvariant (length self.old.node.weights) (on_accept self.old.node from ballot slot value.now) }
+        requires preserves { PreservesInvariant (length self.old.node.weights)
+            (on_accept self.old.node from ballot slot value.now) }
         ensures ready { IfOk result (IsReadyFor self.new (on_accept self.old.node from ballot slot value.now)) }
         ensures node { self.new.node ≡ self.old.node }
         ensures capacity { KeepsCapacity self.old self.new }
@@ -84,7 +85,8 @@ impl<V: Value> NodeCore<V> {
     /// Stages accepting an entry, and posts Accepted to all nodes.
     fn stage_entry(&self, slot: u32, entry: AcceptedEntry<V>) -> Result<Ready<V>, AllocError>
         requires capacity { slot < self.now.accepted_capacity }
-        requires preserves { PreservesInvariant (length self.now.node.weights) (accepts_value self.now.node entry.ballot slot entry.value) }
+        requires preserves { PreservesInvariant (length self.now.node.weights)
+            (accepts_value self.now.node entry.ballot slot entry.value) }
         ensures { IfOk result (IsReadyFor self.now (accepts_value self.now.node entry.ballot slot entry.value)) }
     {
         let message = Broadcast::Accepted {

@@ -18,7 +18,8 @@ impl<V: Value> NodeCore<V> {
     ghost use Rattle.synod.specs.Weights.{is_quorum};
     ghost use Rattle.synod.specs.Packets.{IsPage, IsReport};
     ghost use Rattle.synod.specs.Node.{is_heard};
-    ghost use Rattle.synod.specs.Proposer.{on_promise, on_page_of, leads_with_page, receives_page, receives_last_page};
+    ghost use Rattle.synod.specs.Proposer.{on_promise, on_page_of, leads_with_page, receives_page};
+    ghost use Rattle.synod.specs.Proposer.{receives_last_page};
     ghost use Rattle.synod.specs.Step.{PreservesInvariant};
     ghost use Rattle.synod.specs.Capacity.{KeepsCapacity};
     ghost use Rattle.synod.specs.Ready.{IsReadyFor};
@@ -32,7 +33,8 @@ impl<V: Value> NodeCore<V> {
     ) -> Result<Ready<V>, AllocError>
         requires node { node < length self.old.node.pages }
         requires page { page < SLOTS }
-        requires preserves { PreservesInvariant (length self.old.node.weights) (receives_page self.old.node node page reports.now) }
+        requires preserves { PreservesInvariant (length self.old.node.weights)
+            (receives_page self.old.node node page reports.now) }
         ensures ready { IfOk result (IsReadyFor self.new (receives_page self.old.node node page reports.now)) }
         ensures node { self.new.node ≡ self.old.node }
         ensures capacity { KeepsCapacity self.old self.new }
@@ -59,7 +61,8 @@ impl<V: Value> NodeCore<V> {
     ) -> Result<Ready<V>, AllocError>
         requires node { heard.node < length self.old.node.pages }
         requires page { page < SLOTS }
-        requires preserves { PreservesInvariant (length self.old.node.weights) (receives_last_page self.old.node heard page reports.now) }
+        requires preserves { PreservesInvariant (length self.old.node.weights)
+            (receives_last_page self.old.node heard page reports.now) }
         ensures ready { IfOk result (IsReadyFor self.new (receives_last_page self.old.node heard page reports.now)) }
         ensures node { self.new.node ≡ self.old.node }
         ensures capacity { KeepsCapacity self.old self.new }
@@ -101,8 +104,10 @@ impl<V: Value> NodeCore<V> {
         requires first { first ≤ SLOTS }
         requires page { page < SLOTS }
         requires each { AllByRecursion IsReport reports.now }
-        requires preserves { PreservesInvariant (length self.old.node.weights) (on_page_of self.old.node ballot first heard page reports.now) }
-        ensures ready { IfOk result (IsReadyFor self.new (on_page_of self.old.node ballot first heard page reports.now)) }
+        requires preserves { PreservesInvariant (length self.old.node.weights)
+            (on_page_of self.old.node ballot first heard page reports.now) }
+        ensures ready { IfOk result
+            (IsReadyFor self.new (on_page_of self.old.node ballot first heard page reports.now)) }
         ensures node { self.new.node ≡ self.old.node }
         ensures capacity { KeepsCapacity self.old self.new }
     {
@@ -140,8 +145,10 @@ impl<V: Value> NodeCore<V> {
         requires node { node < length self.now.node.pages }
         requires first { first ≤ SLOTS }
         requires each { AllByRecursion IsReport reports.now }
-        requires preserves { PreservesInvariant (length self.now.node.weights) (leads_with_page self.now.node ballot first node page reports.now heard.now) }
-        ensures { IfOk result (IsReadyFor self.now (leads_with_page self.now.node ballot first node page reports.now heard.now)) }
+        requires preserves { PreservesInvariant (length self.now.node.weights)
+            (leads_with_page self.now.node ballot first node page reports.now heard.now) }
+        ensures { IfOk result
+            (IsReadyFor self.now (leads_with_page self.now.node ballot first node page reports.now heard.now)) }
     {
         let delivered = PagesWithDelivered {
             pages: self.proposer.pages(),
@@ -178,8 +185,10 @@ impl<V: Value> NodeCore<V> {
         reports: &Reports<V>,
     ) -> Result<Ready<V>, AllocError>
         requires page { IsPage page count reports.now }
-        requires preserves { PreservesInvariant (length self.old.node.weights) (on_promise self.old.node from ballot page count reports.now) }
-        ensures ready { IfOk result (IsReadyFor self.new (on_promise self.old.node from ballot page count reports.now)) }
+        requires preserves { PreservesInvariant (length self.old.node.weights)
+            (on_promise self.old.node from ballot page count reports.now) }
+        ensures ready { IfOk result
+            (IsReadyFor self.new (on_promise self.old.node from ballot page count reports.now)) }
         ensures node { self.new.node ≡ self.old.node }
         ensures capacity { KeepsCapacity self.old self.new }
     {

@@ -13,7 +13,8 @@ use slots::SLOTS;
 use std::alloc::AllocError;
 
 impl<V: Value> NodeCore<V> {
-    ghost use Rattle.synod.specs.Learner.{has_voter, counted, on_accepted, on_ask, on_told, asks_below, asks_for};
+    ghost use Rattle.synod.specs.Learner.{has_voter, counted, on_accepted, on_ask, on_told};
+    ghost use Rattle.synod.specs.Learner.{asks_below, asks_for};
     ghost use Rattle.std.specs.Prelude.{Some};
     ghost use Rattle.synod.specs.declared.weights.TheConstants.{MAX_NODES};
     ghost use Rattle.synod.specs.Weights.{is_quorum};
@@ -49,7 +50,8 @@ impl<V: Value> NodeCore<V> {
         value: &Option<V>,
     ) -> Result<Ready<V>, AllocError>
         requires slot { slot < SLOTS }
-        requires preserves { PreservesInvariant (length self.old.node.weights) (on_told self.old.node from slot value.now) }
+        requires preserves { PreservesInvariant (length self.old.node.weights)
+            (on_told self.old.node from slot value.now) }
         ensures ready { IfOk result (IsReadyFor self.new (on_told self.old.node from slot value.now)) }
         ensures node { self.new.node ≡ self.old.node }
         ensures capacity { KeepsCapacity self.old self.new }
@@ -73,7 +75,8 @@ impl<V: Value> NodeCore<V> {
     ) -> Result<Ready<V>, AllocError>
         requires from { from < length self.old.node.weights }
         requires slot { slot < SLOTS }
-        requires preserves { PreservesInvariant (length self.old.node.weights) (on_accepted self.old.node from ballot slot value.now) }
+        requires preserves { PreservesInvariant (length self.old.node.weights)
+            (on_accepted self.old.node from ballot slot value.now) }
         ensures ready { IfOk result (IsReadyFor self.new (on_accepted self.old.node from ballot slot value.now)) }
         ensures node { self.new.node ≡ self.old.node }
         ensures capacity { KeepsCapacity self.old self.new }
@@ -105,7 +108,8 @@ impl<V: Value> NodeCore<V> {
     /// counted: the value that they accepted is then chosen.
     fn completes_quorum(&self, slot: u32, ballot: Ballot, node: u8) -> bool
         requires { node < MAX_NODES }
-        ensures { result ≡ is_quorum self.now.node.weights (has_voter (counted self.now.node.tallies slot ballot node) slot ballot) }
+        ensures { result ≡ is_quorum self.now.node.weights
+            (has_voter (counted self.now.node.tallies slot ballot node) slot ballot) }
     {
         let voters = self.learner.voters_with(slot, ballot, node);
         self.weights.is_quorum(&voters)
@@ -133,7 +137,9 @@ impl<V: Value> NodeCore<V> {
     ) -> Result<Ready<V>, AllocError>
         requires capacity { CanUpdateLearner (learner_of self.now) (Some update) }
         requires node { IsNode (with_learner_update self.now.node update) }
-        ensures { IfOk result (IsReadyFor self.now (volatile_step (with_learner_update self.now.node update) (asks_below self.now.node slot gap))) }
+        ensures { IfOk result
+            (IsReadyFor self.now
+            (volatile_step (with_learner_update self.now.node update) (asks_below self.now.node slot gap))) }
     {
         let posts = self.asks_others_for_first_gap(slot, gap)?;
         Ok(self.stage_learner_update(update, posts))
@@ -149,7 +155,9 @@ impl<V: Value> NodeCore<V> {
     ) -> Result<Ready<V>, AllocError>
         requires capacity { CanUpdateLearner (learner_of self.now) (Some update) }
         requires node { IsNode (with_learner_update self.now.node update) }
-        ensures { IfOk result (IsReadyFor self.now (volatile_step (with_learner_update self.now.node update) (asks_for self.now.node from gap))) }
+        ensures { IfOk result
+            (IsReadyFor self.now
+            (volatile_step (with_learner_update self.now.node update) (asks_for self.now.node from gap))) }
     {
         let posts = self.asks_sender_for_first_gap(from, gap)?;
         Ok(self.stage_learner_update(update, posts))

@@ -58,7 +58,8 @@ impl<V: Value> NodeCore<V> {
         value: V,
     ) -> Result<Ready<V>, AllocError>
         requires slot { slot < SLOTS }
-        requires preserves { PreservesInvariant (length self.old.node.weights) (proposes_value self.old.node ballot slot value) }
+        requires preserves { PreservesInvariant (length self.old.node.weights)
+            (proposes_value self.old.node ballot slot value) }
         ensures ready { IfOk result (IsReadyFor self.new (proposes_value self.old.node ballot slot value)) }
         ensures node { self.new.node ≡ self.old.node }
         ensures capacity { KeepsCapacity self.old self.new }
