@@ -1,20 +1,14 @@
 -- Lists of symbols, any two different of which are a pair.
 -- Metamath, 4.2.6: every two variables of an active `$d` are disjoint.
 -- The code goes through the lists of the active `$d` that have one variable, by number.
-use Rattle.std.specs.Prelude.{◌≡◌, ◌==◌, not, ◌&&◌, ◌||◌, ◌<◌, ℕ, Bool, true, false, List, length}
-use Rattle.frame.specs.Words.{list_any, name_at, Database}
+use Rattle.std.specs.Prelude.{◌≡◌, ◌==◌, ◌&&◌, ◌<◌, ℕ, Bool, true, false, List, length}
+use Rattle.frame.specs.Words.{list_any, name_at}
 use Rattle.frame.specs.FrameOf.{is_pair}
 use Rattle.frame.specs.Parts.{Numbered}
 
 -- whether the symbols with these numbers are a pair
 abbrev pub is_numbered_pair : Numbered → ℕ → ℕ → Bool
 is_numbered_pair v x y = is_pair v.statements (name_at v.names x) (name_at v.names y)
-
--- two symbols are a pair if they are different and both in the list, or if they are a pair after
--- the statements S
-abbrev pub ArePairsWith : Numbered → List ℕ → Database → Type 0
-ArePairsWith v list S = (x y : ℕ) → x < length v.names → y < length v.names
-    → is_numbered_pair v x y ≡ (not (x == y) && (list_any (λ c. x == c) list && list_any (λ c. y == c) list) || is_pair S (name_at v.names x) (name_at v.names y))
 
 -- one of the lists has both symbols
 abbrev pub have_both : List (List ℕ) → ℕ → ℕ → Bool

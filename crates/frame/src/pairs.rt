@@ -1,20 +1,17 @@
 //! The disjoint variables at a position.
 ghost use Rattle.std.specs.Prelude.{◌≡◌, ◌==◌, ◌&&◌, ◌+◌, ◌-◌, ◌<◌, ◌≤◌, ℕ, not, false, length};
-ghost use Rattle.std.specs.Prelude.{take, IfNone, IfSome};
+ghost use Rattle.std.specs.Prelude.{take, IfNone};
 ghost use Rattle.std.specs.List.{list_any};
-ghost use Rattle.mm_lex.specs.Alphabet.{Name};
 ghost use Rattle.names.specs.Codes.{name_at, code_of};
 ghost use Rattle.scope.specs.Active.{is_variable};
-ghost use Rattle.frame.specs.Below.{AllBelow, AreBelow};
-ghost use Rattle.frame.specs.FrameOf.{is_pair};
+ghost use Rattle.frame.specs.Below.{AllBelow};
 ghost use Rattle.entries.specs.Mentions.{positions_of};
 ghost use Rattle.frame.specs.LastActive.{actives, is_disj};
-ghost use Rattle.frame.specs.ListsOfPairs.{AreListsOfPairs, ArePairsWith, is_numbered_pair};
+ghost use Rattle.frame.specs.ListsOfPairs.{AreListsOfPairs, is_numbered_pair};
 ghost use Rattle.frame.specs.Stored.EntryMeanings.{statements_of};
 ghost use Rattle.frame.specs.Stored.Stacks.{AreOfKind, IsOfKind, has_code, positions_with};
 ghost use Rattle.frame.specs.Stored.Whole.{AreStored};
 
-use crate::at_position::last_active_at;
 use crate::disjoints_with::DisjointsWith;
 use crate::first_active::first_active;
 use crate::storage::Storage;
@@ -84,25 +81,6 @@ impl<'a> Pairs<'a> {
         ensures { result ≡ self.now }
     {
         Pairs { ..*self }
-    }
-
-    /// Goes back to the last active `$d` and returns its list, or `None` if none is active.
-    ///
-    /// Cost: two look-ups.
-    #[inline(always)]
-    pub fn pop_disjoint(&mut self) -> Option<&'a [u32]>
-        ensures names { self.new.names ≡ self.old.names }
-        ensures fewer { IfSome result (λ list. length self.new.statements < length self.old.statements) }
-        ensures below { IfSome result (λ list. AreBelow (length self.new.names) list.now) }
-        ensures pairs { IfSome result (λ list. ArePairsWith self.old list.now self.new.statements) }
-        ensures none { IfNone result ((x y : Name) → is_pair self.old.statements x y ≡ false) }
-    {
-        let last = last_active_at(self.storage, self.at).disjoint as usize;
-        if last == 0 {
-            return None;
-        }
-        self.at = last;
-        Some(self.storage.entries.entry(last - 1).symbols)
     }
 
     /// Returns the number of a name, if it has one. A name without a number is not a variable at
