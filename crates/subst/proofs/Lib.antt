@@ -12,3 +12,4 @@ pub mod SubstitutionLemmas
 pub mod DisjointLemmas
 mod Rows
 pub mod GroupLemmas
+pub mod PairwiseLemmas

@@ -30,7 +30,7 @@ pub use Rattle.std.specs.List.{list_all, list_any, position_or_len, prefix_len}
 pub use Rattle.std.specs.Map.{lookup}
 pub use Rattle.std.specs.Prelude.{Err, IfNone, IfSome, None, Ok, Option, Result, Some, [], codes, cond, is_some, map, min, nat_eq, nat_lt, not, replicate, slice_get, slice_range, slice_set, suc, zero, ◌%◌, ◌&&◌, ◌||◌, ◌∷◌, ◌≤◌}
 pub use Rattle.std.specs.Simd.Lanes.{mask_l, top, zip2}
-pub use Rattle.subst.specs.DisjointImages.{are_two_disjoint, image_named, is_number_disjoint}
+pub use Rattle.subst.specs.DisjointImages.{are_numbers_disjoint, are_two_disjoint, image_named, is_number_disjoint}
 pub use Rattle.subst.specs.Images.{AreOver}
 pub use Rattle.subst.specs.Laws.{AreImagesDisjoint, DisjointConditionLaw, SubstitutionOverNames}
 pub use Rattle.subst.specs.Stored.ImageTables.{AreUpTo, images_in_round}

@@ -16,3 +16,7 @@ are_two_disjoint D image k l = (k == l) || are_disjoint D (image k) (image l)
 -- the image of k is disjoint from those of the other numbers of the group
 abbrev pub is_number_disjoint : Database → (ℕ → Expr) → List ℕ → ℕ → Bool
 is_number_disjoint D image group k = list_all (are_two_disjoint D image k) group
+
+-- the images of every two different numbers of the group are disjoint
+abbrev pub are_numbers_disjoint : Database → (ℕ → Expr) → List ℕ → Bool
+are_numbers_disjoint D image group = list_all (is_number_disjoint D image group) group

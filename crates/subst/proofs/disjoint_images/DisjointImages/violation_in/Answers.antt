@@ -1,5 +1,5 @@
 use Rattle.subst.proofs.Words.{length, true, sym, below-at, below-take, image_named, images_at}
-use Rattle.subst.proofs.GroupLemmas.{decides-all, decides-more}
+use Rattle.subst.proofs.PairwiseLemmas.{decides-all, decides-more}
 use Rattle.subst.proofs.disjoint_images.DisjointImages.violation_in.Goals as goal
 
 pub violation_with-requires-clause-number : goal.violation_with-requires-clause-number

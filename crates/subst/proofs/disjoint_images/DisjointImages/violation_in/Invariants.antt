@@ -1,5 +1,5 @@
 use Rattle.subst.proofs.Words.{true, AreLists, image_named, images_at}
-use Rattle.subst.proofs.GroupLemmas.{Decides}
+use Rattle.subst.proofs.PairwiseLemmas.{Decides}
 use Rattle.subst.proofs.disjoint_images.DisjointImages.violation_in.Given as goal
 
 -- the images of the numbers so far are disjoint
