@@ -47,7 +47,7 @@ offered_missing form ws rest lines at is none =
     ∙ ap (λ o. option_and_then (λ t. Some (offered_text at t.0, t.1)) o) none
 
 -- an error that is passed on
-handed_on : {L : Type 0} (r : Result L LineFault) (fault : LineFault) → IsErrAnd r (λ f. f ≡ fault) → Err fault ≡ r
+pub handed_on : {L : Type 0} (r : Result L LineFault) (fault : LineFault) → IsErrAnd r (λ f. f ≡ fault) → Err fault ≡ r
 handed_on (Err f) fault h = ap Err (sym h)
 handed_on (Ok x) fault h = elim h [ ]
 
