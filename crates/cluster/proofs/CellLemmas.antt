@@ -1,6 +1,6 @@
 -- The invariant of a cell: its entries are within the limit, and its library is that of the first
 -- of them.
-use Rattle.cluster.proofs.Words.{◌≡◌, ℕ, ◌<◌, Bool, true, false, List, [], ◌∷◌, ◌++◌, length, slice_get, Option, Some, None, Result, Ok, Err, refl, ap, sym, subst, arith, length-append, IsSome, option_map, Bor, SLOTS, Verdict, Carried, StepFault, entry_of, entries_of, NodeLibrary, AppliesNext, entries_begin, entries_of-get, entries_of-none, of_longer, of_log_applied, Cell, IsCell, AddsEntry, next_entry, Entry}
+use Rattle.cluster.proofs.Words.{◌≡◌, ℕ, ◌<◌, Bool, true, false, List, [], ◌∷◌, ◌++◌, length, slice_get, Option, Some, None, Result, Ok, Err, refl, ap, sym, subst, arith, length-append, IsSome, option_map, Bor, SLOTS, Verdict, Carried, StepFault, entry_of, entries_of, NodeLibrary, AppliesNext, entries_begin, entries_of-get, entries_of-none, of_longer, of_log_applied, limit-applied, IsOfLog, Cell, IsCell, AddsEntry, next_entry, Entry}
 
 -- the cell as a call sees it
 abbrev pub cell : ℕ → List (Option Carried) → NodeLibrary → Cell
@@ -13,7 +13,7 @@ module _ (k : ℕ) (node : NodeLibrary) (old new : List (Option Carried)) (h : I
   one_more : (entry : Option Carried) → length old < SLOTS → new ≡ old ++ entry ∷ [] → IsCell (cell k new node)
   one_more entry low is = record {
     few = let count = ap (λ (es : List (Option Carried)). length es) is in omega (arith, low, count, length-append old (entry ∷ []));
-    of_entries = of_longer (entries_of old) (entries_of new) node (entries_begin old new (entry ∷ [], sym is)) h.of_entries;
+    of_entries = of_longer node.library.limit (entries_of old) (entries_of new) node (entries_begin old new (entry ∷ [], sym is)) h.of_entries;
   }
 
   -- with the same entries it is a cell
@@ -50,7 +50,8 @@ applied_cell k entries old new h None at (Err fault) applies = elim applies [ ]
 applied_cell k entries old new h (Some entry) at (Ok None) applies = elim applies [ ]
 applied_cell k entries old new h (Some entry) at (Ok (Some verdict)) applies = record {
   few = h.few;
-  of_entries = of_log_applied (entries_of entries) old entry verdict new h.of_entries at applies.0 applies.1;
+  of_entries = subst (λ (limit : Option ℕ). IsOfLog limit (entries_of entries) new) (sym (limit-applied old.library entry verdict new.library applies.0))
+      (of_log_applied old.library.limit (entries_of entries) old entry verdict new h.of_entries at applies.0 applies.1);
 }
 applied_cell k entries old new h (Some entry) at (Err fault) applies = subst (λ (n : NodeLibrary). IsCell (cell k entries n)) (sym applies.1) h
 

@@ -1,5 +1,5 @@
 -- The relation between cells and switch: what follows from it, and how a call preserves it.
-use Rattle.cluster.proofs.Words.{◌≡◌, ℕ, suc, ◌<◌, ◌≤◌, nat_lt, Bool, true, false, List, [], ◌∷◌, ◌++◌, length, slice_get, Option, Some, None, Result, Ok, Err, refl, ap, sym, ◌∙◌, subst, arith, append_assoc, IsOk, MatchOption, is_err, option_map, Bor, nat_tests, StepFault, NoNode, log_after, IsPrefixOf, SwitchView, world_of, IsLogPrefix, Carried, carried_size, NodeLibrary, Cell, new_cell, AddsEntry, TakesOver, Belongs}
+use Rattle.cluster.proofs.Words.{◌≡◌, ℕ, suc, ◌<◌, ◌≤◌, nat_lt, Bool, true, false, List, [], ◌∷◌, ◌++◌, length, slice_get, Option, Some, None, Result, Ok, Err, refl, ap, sym, ◌∙◌, subst, arith, append_assoc, IsOk, MatchOption, is_err, option_map, Bor, nat_tests, StepFault, NoNode, log_after, IsPrefixOf, SwitchView, world_of, IsLogPrefix, Carried, carried_size, NodeLibrary, Cell, new_cell, work_limit_of, AddsEntry, TakesOver, Belongs}
 
 -- A log, as a switch shows it.
 
@@ -10,7 +10,7 @@ shown_is log slot None h = sym h
 shown_is log slot (Some e) h = sym h
 
 -- The cell of a node that restarted.
-pub restarted_belongs : (old new : Cell) (was now : SwitchView Carried) → new ≡ new_cell old.node → length now.stores ≡ length was.stores → Belongs old was → Belongs new now
+pub restarted_belongs : (old new : Cell) (was now : SwitchView Carried) → new ≡ new_cell (work_limit_of old) old.node → length now.stores ≡ length was.stores → Belongs old was → Belongs new now
 restarted_belongs old new was now is count b = subst (λ (c : Cell). Belongs c now) (sym is) record {
   node = let low = b.node in omega (arith, low, count);
   begins = (log_after (world_of carried_size now) old.node, refl);

@@ -1,7 +1,7 @@
 -- The names used in the proofs of this crate, with lemmas of std and of the layers below,
 -- re-exported from one place.
 pub use Rattle.cluster.specs.Belongs.{Belongs, EachBelongs, IsAhead}
-pub use Rattle.cluster.specs.Cell.{AddsEntry, Cell, IsCell, TakesOver, new_cell, next_entry}
+pub use Rattle.cluster.specs.Cell.{AddsEntry, Cell, IsCell, TakesOver, new_cell, next_entry, work_limit_of}
 pub use Rattle.cluster.specs.Cells.{new_cells}
 pub use Rattle.cluster.specs.Outcome.{first_with_key}
 pub use Rattle.library.specs.LibraryOf.{ReplicaState}
@@ -28,7 +28,7 @@ pub use Rattle.synod.specs.declared.change.Change.TheVariants.{Promise, Round}
 pub use Rattle.synod.specs.declared.change.AcceptedEntry.{AcceptedEntry}
 pub use Rattle.world.proofs.EntryLogs.{entries_begin, entries_of-get, entries_of-none}
 pub use Rattle.world.proofs.HeadlineLemmas.{headline_holds}
-pub use Rattle.world.proofs.WorldViewLemmas.{of_log_applied, of_longer}
+pub use Rattle.world.proofs.WorldViewLemmas.{limit-applied, of_log_applied, of_longer}
 pub use Rattle.world.specs.Carried.{carried_size, entries_of, entry_of}
 pub use Rattle.world.specs.Headline.{Headline}
 pub use Rattle.world.specs.WorldView.{AppliesNext, IsOfLog, NodeLibrary}

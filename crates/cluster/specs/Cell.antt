@@ -12,14 +12,19 @@ pub record Cell : Type 0 where
   pub entries : List (Option Carried)  -- taken over, in the order of the log; None is a no-operation
   pub node_library : NodeLibrary  -- the library, and the number of entries applied to it
 
-abbrev pub new_cell : ℕ → Cell
-new_cell k = record { node = k; entries = []; node_library = new_node_library }
+-- the cell of a new node k, with a limit on work or none
+abbrev pub new_cell : Option ℕ → ℕ → Cell
+new_cell limit k = record { node = k; entries = []; node_library = new_node_library limit }
+
+-- the greatest work that an entry may count in the cell's library, if there is a limit
+abbrev pub work_limit_of : Cell → Option ℕ
+work_limit_of c = c.node_library.library.limit
 
 -- the entries are no more than a log has slots, and the library is that of the first of them, as
--- many as were applied
+-- many as were applied, under its limit on work
 pub record IsCell (c : Cell) : Type 0 where
   pub few : length c.entries ≤ SLOTS
-  pub of_entries : IsOfLog (entries_of c.entries) c.node_library
+  pub of_entries : IsOfLog (work_limit_of c) (entries_of c.entries) c.node_library
 
 -- the next entry is appended, or there is none; or an allocation fails, and nothing is appended.
 -- The third argument is the next entry: None if there is none, Some None if it is a no-operation.

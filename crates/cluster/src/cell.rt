@@ -12,7 +12,7 @@ ghost use Rattle.switch.specs.Switch.{new_views, world_of};
 ghost use Rattle.cluster.specs.Belongs.{Belongs, EachBelongs};
 ghost use Rattle.cluster.specs.Cells.{new_cells};
 ghost use Rattle.cluster.specs.Cell.{Cell, new_cell, IsCell, AddsEntry, TakesOver, next_entry};
-ghost use Rattle.cluster.specs.Cell.{next_log_entry};
+ghost use Rattle.cluster.specs.Cell.{next_log_entry, work_limit_of};
 
 use crate::log::is_log_prefix;
 use library::{Library, Listed, Verdict};
@@ -28,7 +28,8 @@ use world::{Carried, NodeLibrary};
 /// The entries taken over from a node's log, and the library of the first of them, those applied. A
 /// `Carried` wraps an entry of a library as a value that the nodes agree on.
 ///
-/// Contracts see the node's number, those entries, the count applied and what the library holds.
+/// Contracts see the node's number, those entries, the count applied, what the library holds and
+/// its limit on work.
 #[derive(Drop)]
 pub struct NodeCell {
     alloc: Global,
@@ -51,15 +52,16 @@ impl Model for NodeCell {
 }
 
 impl NodeCell {
-    /// Creates the cell of a new node. It does not allocate.
-    pub(crate) fn new(alloc: Global, node: u8) -> Self
-        ensures { result ≡ new_cell node }
+    /// Creates the cell of a new node; `work_limit` is the greatest work that an entry may count,
+    /// if there is a limit. It does not allocate.
+    pub(crate) fn new(alloc: Global, work_limit: Option<u64>, node: u8) -> Self
+        ensures { result ≡ new_cell work_limit node }
     {
         NodeCell {
             alloc,
             node,
             entries: Vec::new(alloc),
-            node_library: NodeLibrary::new(alloc),
+            node_library: NodeLibrary::new(alloc, work_limit),
         }
     }
 
@@ -70,12 +72,20 @@ impl NodeCell {
         self.node
     }
 
-    /// Returns the library: that of the first `applied` entries taken over. It does not allocate.
+    /// Returns the library: that of the first `applied` entries taken over, under its limit on
+    /// work. It does not allocate.
     pub fn library(&self) -> &Library
         ensures library { result.now.replica ≡ self.now.node_library.library }
         ensures of_entries { IsCell self.now }
     {
         self.node_library.library()
+    }
+
+    /// Returns the greatest work that an entry may count, if there is a limit.
+    pub fn work_limit(&self) -> Option<u64>
+        ensures { result ≡ work_limit_of self.now }
+    {
+        self.node_library.library().limit()
     }
 
     /// Returns the entries taken over from the node's log, in order; `None` is a no-operation. It
@@ -100,9 +110,10 @@ impl NodeCell {
         (self.node_library.applied() as usize) < self.entries.len()
     }
 
-    /// Discards the entries taken over, and empties the library. It does not allocate.
+    /// Discards the entries taken over, and empties the library, which keeps its limit on work. It
+    /// does not allocate.
     pub(crate) fn reset(&mut self)
-        ensures { self.new ≡ new_cell self.old.node }
+        ensures { self.new ≡ new_cell (work_limit_of self.old) self.old.node }
     {
         self.entries.clear();
         self.node_library.reset(self.alloc);
@@ -214,13 +225,15 @@ pub fn list_on(cell: &NodeCell) -> Result<Vec<Listed>, AllocError>
 }
 
 /// Creates a switch of new nodes, one for each weight, and their cells. There has to be one keep
-/// for each weight, with the record of a new node. The switch takes at most `event_limit` events.
+/// for each weight, with the record of a new node. The switch takes at most `event_limit` events;
+/// `work_limit` is the greatest work that an entry may count, if there is a limit.
 ///
 /// Errors: `Memory`.
 pub fn cells<K: Keep<Carried>>(
     alloc: Global,
     weights: Weights,
     event_limit: u64,
+    work_limit: Option<u64>,
     keeps: Vec<K>,
 ) -> Result<(Switch<Carried, K>, Vec<NodeCell>), StepFault>
     requires count { length keeps.items ≡ length weights }
@@ -228,22 +241,26 @@ pub fn cells<K: Keep<Carried>>(
     ensures switch { IfOk result
         (λ parts. parts.0
         ≡ record { weights = weights; event_limit = event_limit; history = []; stores = new_views K.failures keeps.items }) }
-    ensures cells { IfOk result (λ parts. parts.1.items ≡ new_cells 0 weights) }
+    ensures cells { IfOk result (λ parts. parts.1.items ≡ new_cells work_limit 0 weights) }
     ensures belong { IfOk result (λ parts. EachBelongs parts.1.items parts.0) }
     ensures only_memory { IsOkUnless result Memory }
 {
     let switch = Switch::new(alloc, weights, event_limit, keeps)?;
-    let cells = cells_of(alloc, weights)?;
+    let cells = cells_of(alloc, work_limit, weights)?;
     Ok((switch, cells))
 }
 
-/// Creates a new cell for each weight.
-fn cells_of(alloc: Global, weights: Weights) -> Result<Vec<NodeCell>, AllocError>
-    ensures { IfOk result (λ cells. cells.items ≡ new_cells 0 weights) }
+/// Creates a new cell for each weight, with the limit on work.
+fn cells_of(
+    alloc: Global,
+    work_limit: Option<u64>,
+    weights: Weights,
+) -> Result<Vec<NodeCell>, AllocError>
+    ensures { IfOk result (λ cells. cells.items ≡ new_cells work_limit 0 weights) }
 {
     let mut cells = Vec::new(alloc);
     for k in 0..weights.count() {
-        cells.push(NodeCell::new(alloc, k))?;
+        cells.push(NodeCell::new(alloc, work_limit, k))?;
     }
     Ok(cells)
 }

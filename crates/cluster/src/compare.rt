@@ -1,6 +1,8 @@
 //! Which of two cells of one switch is ahead.
 ghost use Rattle.net.specs.Agree.{Agree};
+ghost use Rattle.std.specs.Prelude.{◌≡◌};
 ghost use Rattle.cluster.specs.Belongs.{Belongs, IsAhead};
+ghost use Rattle.cluster.specs.Cell.{work_limit_of};
 
 use crate::cell::NodeCell;
 use library::Library;
@@ -19,8 +21,9 @@ pub enum Ahead {
     Second,
 }
 
-/// Returns which of two cells that belong to one switch has the library with more statements, if
-/// one has. The statements of the other are a prefix of them. It does not allocate.
+/// Returns which of two cells that belong to one switch and have one limit on work has the library
+/// with more statements, if one has. The statements of the other are a prefix of them. It does not
+/// allocate.
 ///
 /// Cost: constant; the two counts are compared.
 pub fn compare_on<K: Keep<Carried>>(
@@ -30,6 +33,7 @@ pub fn compare_on<K: Keep<Carried>>(
 ) -> Ahead
     requires one { Belongs one.now switch.now }
     requires other { Belongs other.now switch.now }
+    requires limit { work_limit_of one.now ≡ work_limit_of other.now }
     ensures { IsAhead result one.now.node_library.library.statements other.now.node_library.library.statements }
 {
     // The switch has the node of `one`, so this call of `entry` succeeds; its clause

@@ -5,7 +5,7 @@ ghost use Rattle.net.specs.declared.event.Event.TheVariants.{Offer, Begin, Deliv
 ghost use Rattle.switch.specs.Switch.{Plays};
 ghost use Rattle.switch.specs.LogPrefixes.{EventKeepsPrefixes};
 ghost use Rattle.world.specs.Carried.{carried_size};
-ghost use Rattle.cluster.specs.Cell.{new_cell};
+ghost use Rattle.cluster.specs.Cell.{new_cell, work_limit_of};
 ghost use Rattle.cluster.specs.Belongs.{Belongs};
 
 use crate::cell::NodeCell;
@@ -52,8 +52,8 @@ pub fn deliver_on<V: Value, K: Keep<V>>(
     switch.play(Event::Deliver(number))
 }
 
-/// Restarts the cell's node. The cell is then that of a new node: nothing is taken over, and the
-/// library is empty. Returns the number of packets posted so far.
+/// Restarts the cell's node. The cell is then that of a new node with the same limit on work:
+/// nothing is taken over, and the library is empty. Returns the number of packets posted so far.
 ///
 /// Errors: those of `Switch::play`; the cell is then as before. Cost: that of `Switch::play`, and
 /// of dropping the entries and the library.
@@ -63,7 +63,7 @@ pub fn restart_on<K: Keep<Carried>>(
 ) -> Result<u64, StepFault>
     ensures plays { Plays carried_size switch.old switch.new (Restart cell.old.node) result }
     ensures logs { EventKeepsPrefixes carried_size (Restart cell.old.node) switch.old switch.new result }
-    ensures fresh { OnOk result (cell.new ≡ new_cell cell.old.node) }
+    ensures fresh { OnOk result (cell.new ≡ new_cell (work_limit_of cell.old) cell.old.node) }
     ensures stays { OnErr result (cell.new ≡ cell.old) }
     ensures belongs { Belongs cell.old switch.old → Belongs cell.new switch.new }
 {

@@ -5,8 +5,8 @@ use crate::grammar::{commands, matches_of};
 use crate::hints::push_hint;
 use crate::picture_options::pictured_steps;
 use crate::request::{
-    CommandLineFault, DatabaseQuestion, ProofForm, ProofQuestion, Question, Request, ServeOptions,
-    SiteRequest,
+    CommandLineFault, DatabaseQuestion, PlayOptions, ProofForm, ProofQuestion, Question, Request,
+    ServeOptions, SiteRequest, WorkRequest,
 };
 use crate::weights::{WorkerCount, parse_weights};
 use clap::error::ErrorKind;
@@ -22,6 +22,10 @@ const DEFAULT_EVENT_LIMIT: u64 = 1_000_000;
 /// The greatest number that `--max-events` gives, and the number of events that the nodes of
 /// `serve` take.
 const MAX_EVENT_LIMIT: u64 = 1 << 32;
+
+/// The greatest work that an entry may count in a session (`serve --live`), where `--max-work` says
+/// nothing else.
+const LIVE_WORK_LIMIT: u64 = 1_000_000_000;
 
 /// Parses the words of a command line, without the program's own name.
 ///
@@ -70,39 +74,26 @@ fn request<'a>(alloc: Global, matches: &ArgMatches<'a>) -> Result<Request<'a>, C
         Some(("outline", options)) => Ok(Request::Outline {
             name: options.get_str("name"),
         }),
+        Some(("work", options)) => Ok(Request::Work(WorkRequest {
+            name: options.get_str("name"),
+            most: most(alloc, options)?,
+        })),
         Some(("pages", options)) => Ok(Request::Pages(SiteRequest {
             folder: options.get_str("folder").unwrap_or(""),
             name: options.get_str("name"),
             assumes_unproved: options.get_flag("assume"),
         })),
         Some(("play", options)) => {
-            let nodes = node_count(alloc, options)?;
-            let weights = weights(alloc, options, nodes)?;
-            let event_limit = event_limit(alloc, options)?;
+            let played = play_options(alloc, options)?;
             match pictured_steps(alloc, options)? {
                 Some(steps) => Ok(Request::Picture {
-                    weights,
-                    event_limit,
+                    options: played,
                     steps,
                 }),
-                None => Ok(Request::Play {
-                    weights,
-                    event_limit,
-                }),
+                None => Ok(Request::Play(played)),
             }
         }
-        Some(("serve", options)) => {
-            let nodes = node_count(alloc, options)?;
-            let workers = worker_count(alloc, options)?;
-            let seed = weather_seed(alloc, options)?;
-            Ok(Request::Serve(ServeOptions {
-                weights: weights(alloc, options, nodes)?,
-                event_limit: MAX_EVENT_LIMIT,
-                workers,
-                weather_seed: seed,
-                is_live: options.get_flag("live"),
-            }))
-        }
+        Some(("serve", options)) => Ok(Request::Serve(serve_options(alloc, options)?)),
         Some((command, options)) => Ok(Request::Ask(DatabaseQuestion {
             question: question(alloc, command, options)?,
             name: options.get_str("name"),
@@ -110,6 +101,33 @@ fn request<'a>(alloc: Global, matches: &ArgMatches<'a>) -> Result<Request<'a>, C
         })),
         None => Err(no_command(alloc)),
     }
+}
+
+/// Returns the nodes that the options of `play` give.
+fn play_options(alloc: Global, options: &ArgMatches) -> Result<PlayOptions, CommandLineFault> {
+    let nodes = node_count(alloc, options)?;
+    Ok(PlayOptions {
+        weights: weights(alloc, options, nodes)?,
+        event_limit: event_limit(alloc, options)?,
+        work_limit: work_limit(alloc, options, None)?,
+    })
+}
+
+/// Returns the nodes that the options of `serve` give, and how its lines are read.
+fn serve_options(alloc: Global, options: &ArgMatches) -> Result<ServeOptions, CommandLineFault> {
+    let nodes = node_count(alloc, options)?;
+    let workers = worker_count(alloc, options)?;
+    let seed = weather_seed(alloc, options)?;
+    let is_live = options.get_flag("live");
+    let default = if is_live { Some(LIVE_WORK_LIMIT) } else { None };
+    Ok(ServeOptions {
+        weights: weights(alloc, options, nodes)?,
+        event_limit: MAX_EVENT_LIMIT,
+        work_limit: work_limit(alloc, options, default)?,
+        workers,
+        weather_seed: seed,
+        is_live,
+    })
 }
 
 /// Returns the question that a command asks with its options.
@@ -211,6 +229,37 @@ fn event_limit(alloc: Global, options: &ArgMatches) -> Result<u64, CommandLineFa
     match number(options, "max-events") {
         Some(limit) if 1 <= limit && limit <= MAX_EVENT_LIMIT => Ok(limit),
         _ => Err(invalid_value(alloc, "--max-events is a number from 1 to 4294967296")),
+    }
+}
+
+/// Returns the limit on work that `--max-work` gives, or `default` if it is not given.
+fn work_limit(
+    alloc: Global,
+    options: &ArgMatches,
+    default: Option<u64>,
+) -> Result<Option<u64>, CommandLineFault> {
+    match options.get_str("max-work") {
+        None => return Ok(default),
+        Some("none") => return Ok(None),
+        Some(_) => {}
+    }
+    match number(options, "max-work") {
+        Some(limit) if limit >= 1 => Ok(Some(limit)),
+        _ => Err(invalid_value(
+            alloc,
+            "--max-work is a number from 1 to 18446744073709551615, or none",
+        )),
+    }
+}
+
+/// Returns how many theorems `--most` asks for, 0 without the option.
+fn most(alloc: Global, options: &ArgMatches) -> Result<u64, CommandLineFault> {
+    if options.get_str("most").is_none() {
+        return Ok(0);
+    }
+    match number(options, "most") {
+        Some(most) => Ok(most),
+        None => Err(invalid_value(alloc, "--most is a number")),
     }
 }
 

@@ -120,6 +120,24 @@ const MAX_EVENTS: Argument = Argument {
     help: "How many events the nodes take, 1 to 4294967296; else 1000000",
 };
 
+const PLAYED_MAX_WORK: Argument = Argument {
+    name: "max-work",
+    form: ArgumentForm::Optional("N"),
+    help: "The greatest work that an entry may count, or none; else none",
+};
+
+const SERVED_MAX_WORK: Argument = Argument {
+    name: "max-work",
+    form: ArgumentForm::Optional("N"),
+    help: "The greatest work that an entry may count, or none; else none, and 1000000000 with --live",
+};
+
+const MOST: Argument = Argument {
+    name: "most",
+    form: ArgumentForm::Optional("M"),
+    help: "Also the M theorems whose proofs count the most",
+};
+
 const WEATHER: Argument = Argument {
     name: "weather",
     form: ArgumentForm::Optional("SEED"),
@@ -182,7 +200,7 @@ struct CommandDefinition(
     &'static [Argument],
 );
 
-const COMMANDS: [CommandDefinition; 14] = [
+const COMMANDS: [CommandDefinition; 15] = [
     CommandDefinition(
         "outline",
         "mmlib outline < DATABASE",
@@ -194,6 +212,12 @@ const COMMANDS: [CommandDefinition; 14] = [
         "mmlib check < DATABASE",
         "Check the proofs of the database on standard input: mmlib check < set.mm",
         &[CHECK_ALL, NAME],
+    ),
+    CommandDefinition(
+        "work",
+        "mmlib work < DATABASE",
+        "Print how much work it is to judge the database on standard input: mmlib work --most 10 < set.mm",
+        &[MOST, NAME],
     ),
     CommandDefinition(
         "list",
@@ -259,13 +283,21 @@ const COMMANDS: [CommandDefinition; 14] = [
         "play",
         "mmlib play --nodes N < SCRIPT",
         "Drive nodes, event by event, by the lines of a script on standard input: mmlib play --nodes 3 < my.script",
-        &[NODES, WEIGHTS, MAX_EVENTS, PICTURE, FROM, EVENTS],
+        &[
+            NODES,
+            WEIGHTS,
+            MAX_EVENTS,
+            PLAYED_MAX_WORK,
+            PICTURE,
+            FROM,
+            EVENTS,
+        ],
     ),
     CommandDefinition(
         "serve",
         "mmlib serve --nodes N --workers W < SCRIPT",
         "Serve the lines of a script on standard input by nodes that are threads: mmlib serve --nodes 3 --workers 2 < my.script",
-        &[NODES, WORKERS, WEIGHTS, WEATHER, LIVE],
+        &[NODES, WORKERS, WEIGHTS, SERVED_MAX_WORK, WEATHER, LIVE],
     ),
 ];
 

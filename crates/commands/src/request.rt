@@ -16,23 +16,29 @@ pub enum Request<'a> {
     },
     /// A question about a database.
     Ask(DatabaseQuestion<'a>),
+    /// `work`: how much work it is to judge a database.
+    Work(WorkRequest<'a>),
     /// `pages`: a site of a database.
     Pages(SiteRequest<'a>),
     /// `play`: a script drives nodes, event by event.
-    Play {
-        weights: Weights,
-        /// `--max-events`: the number of events that the nodes take.
-        event_limit: u64,
-    },
+    Play(PlayOptions),
     /// `play --picture`: the picture of the run that a script makes.
     Picture {
-        weights: Weights,
-        /// `--max-events`: the number of events that the nodes take.
-        event_limit: u64,
+        options: PlayOptions,
         steps: PicturedSteps,
     },
     /// `serve`: nodes that are threads carry out lines.
     Serve(ServeOptions),
+}
+
+/// The nodes that `play` drives.
+#[derive(Clone, Copy)]
+pub struct PlayOptions {
+    pub weights: Weights,
+    /// `--max-events`: the number of events that the nodes take.
+    pub event_limit: u64,
+    /// `--max-work`: the greatest work that an entry may count; `None` for no limit.
+    pub work_limit: Option<u64>,
 }
 
 /// The nodes that `serve` starts, and how it reads its lines.
@@ -41,6 +47,8 @@ pub struct ServeOptions {
     pub weights: Weights,
     /// The number of events that the nodes take.
     pub event_limit: u64,
+    /// `--max-work`: the greatest work that an entry may count; `None` for no limit.
+    pub work_limit: Option<u64>,
     /// How many threads read one entry and check its proofs.
     pub workers: WorkerCount,
     /// `--weather`: the seed of a generator that draws which packets are lost, repeated or delayed;
@@ -67,6 +75,15 @@ pub struct DatabaseQuestion<'a> {
     pub name: Option<&'a str>,
     /// `--assume`: each `$p` that is not proved is taken as a `$a`.
     pub assumes_unproved: bool,
+}
+
+/// A request for the work of a database, with the options about the database.
+#[derive(Clone, Copy)]
+pub struct WorkRequest<'a> {
+    /// `--name`: the name that is printed before each line and column.
+    pub name: Option<&'a str>,
+    /// `--most`: how many of the theorems whose proofs count the most are printed.
+    pub most: u64,
 }
 
 /// A request for a site of a database, with the options about the database.

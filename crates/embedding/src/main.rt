@@ -32,7 +32,7 @@ fn entry(alloc: Global, serial: u64, text: &[u8]) -> Result<Entry> {
 
 /// Applies two submissions; prints the verdicts, why the second is refused, and the axioms of `th`.
 fn apply_two(rt: &HostRuntime) -> Result<()> {
-    let mut library = Library::new(rt.alloc());
+    let mut library = Library::new(rt.alloc(), None);
     for (serial, text) in [(1, GOOD), (2, WRONG)] {
         let verdict = library.apply(Some(&entry(rt.alloc(), serial, text)?))?;
         println!(rt; "submission {serial}: {verdict:?}")?;
@@ -59,7 +59,7 @@ fn agree_on_one(rt: &HostRuntime) -> Result<()> {
     let alloc = rt.alloc();
     let (one, two) = (MemoryKeep::new(alloc), MemoryKeep::new(alloc));
     let keeps = vec![in alloc; one, two, MemoryKeep::new(alloc)]?;
-    let (mut switch, mut cells) = cells(alloc, Weights::equal(3), 1_000_000, keeps)?;
+    let (mut switch, mut cells) = cells(alloc, Weights::equal(3), 1_000_000, None, keeps)?;
     offer_on(&mut switch, 0, entry(alloc, 1, GOOD)?)?;
     let mut posted = begin_on(&mut switch, 0)?;
     for packet in 0..100 {
@@ -72,7 +72,10 @@ fn agree_on_one(rt: &HostRuntime) -> Result<()> {
         println!(rt; "node {}: {:?}", cell.node(), apply_on(cell)?)?;
     }
     if let [first, _, last] = cells.as_slice() {
-        if cluster::belongs(first, &switch) && cluster::belongs(last, &switch) {
+        if cluster::belongs(first, &switch)
+            && cluster::belongs(last, &switch)
+            && first.work_limit() == last.work_limit()
+        {
             println!(rt; "nodes 0 and 2: {:?}", compare_on(first, last, &switch))?;
         }
     }

@@ -12,10 +12,10 @@ pub record IsLaid (at : Layout) (run : List ℕ) (spans : List BufferPart) : Typ
   pub count : at.group_count ≡ length spans
   pub grouped : AreSpansIn (at.end - at.grouped_variables) spans
 
-module _ (ns ms : List ℕ) (gs hs : List BufferPart) (rs qs : List StatementRecord) (h : Kind) (t whole : Bool) (run : List ℕ) (spans : List BufferPart)
-    (packed : ArePacked ns gs rs) (numbers : ms ≡ ns ++ run) (groups : hs ≡ gs ++ spans) (records : qs ≡ rs ++ record_by h t whole (length ns) (length gs) ∷ []) where
+module _ (ns ms : List ℕ) (gs hs : List BufferPart) (rs qs : List StatementRecord) (h : Kind) (size : ℕ) (t whole : Bool) (run : List ℕ) (spans : List BufferPart)
+    (packed : ArePacked ns gs rs) (numbers : ms ≡ ns ++ run) (groups : hs ≡ gs ++ spans) (records : qs ≡ rs ++ record_by h size t whole (length ns) (length gs) ∷ []) where
   abbrev last : StatementRecord
-  last = record_by h t whole (length ns) (length gs)
+  last = record_by h size t whole (length ns) (length gs)
 
   last-run : numbers_by ms last None ≡ run
   last-run = range-behind ns run ms ms (length ns) (length ms) refl numbers refl (extends-refl ms)
@@ -67,8 +67,8 @@ run-laid p false shaped e =
     let b = bare p shaped e in
     record { whole = omega arith; count = sym (ap length b.groups); grouped = rw b.groups tt }
 
-pub run-body : (h : Kind) (p : AssertionParts) (from groups : ℕ) (t : Bool) → AreShapedParts p → has_parts p ≡ t → body_of (record_by h t p.whole from groups) (numbers_of t p) p.groups.now ≡ record { kind = h; symbols = p.symbols.now; assertion = assertion_of p }
-run-body h p from groups true shaped e =
+pub run-body : (h : Kind) (size : ℕ) (p : AssertionParts) (from groups : ℕ) (t : Bool) → AreShapedParts p → has_parts p ≡ t → body_of (record_by h size t p.whole from groups) (numbers_of t p) p.groups.now ≡ record { kind = h; size = size; symbols = p.symbols.now; assertion = assertion_of p }
+run-body h size p from groups true shaped e =
     let s = shaped in
     let typecodes = counts_of p ++ p.typecodes.now in
     let numbered_hypotheses = typecodes ++ p.numbered_hypotheses.now in
@@ -88,7 +88,7 @@ run-body h p from groups true shaped e =
     let x = range-behind symbols p.hypotheses.now hypotheses run l.hypotheses l.grouped_variables (omega arith) refl (omega arith) to_hypotheses in
     let y = range-behind hypotheses p.grouped_variables.now run run l.grouped_variables l.end (omega arith) refl (omega arith) (extends-refl run) in
     cc
-run-body h p from groups false shaped e =
+run-body h size p from groups false shaped e =
     let b = bare p shaped e in
     let at = layout_in false p.symbols.now in
     let n : at.hypotheses - 0 ≡ length p.symbols.now = omega arith in

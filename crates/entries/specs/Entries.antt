@@ -25,10 +25,11 @@ pub record Assertion : Type 0 where
   pub typecodes : List ℕ
   pub groups : List (List ℕ)
 
--- a statement: its kind, the counts of labels and of declared symbols before it, the last active
--- statements before it, the numbers of its symbols, and its parts
+-- a statement: its kind, its size, the counts of labels and of declared symbols before it, the last
+-- active statements before it, the numbers of its symbols, and its parts
 pub record Entry : Type 0 where
   pub kind : Kind
+  pub size : ℕ
   pub label_count : ℕ
   pub symbol_count : ℕ
   pub last_active : LastActive
@@ -48,7 +49,7 @@ pub record AreShapedParts (p : AssertionParts) : Type 0 where
 
 -- the statement with this header, these symbols and these parts
 abbrev pub entry_by : EntryHeader → List ℕ → Assertion → Entry
-entry_by h codes a = record { kind = h.kind; label_count = h.before.label_count; symbol_count = h.before.symbol_count; last_active = h.before.last_active; symbols = codes; assertion = a }
+entry_by h codes a = record { kind = h.kind; size = h.size; label_count = h.before.label_count; symbol_count = h.before.symbol_count; last_active = h.before.last_active; symbols = codes; assertion = a }
 
 -- no parts, with this `whole`
 abbrev pub no_parts : Bool → Assertion
@@ -56,7 +57,7 @@ no_parts whole = record { whole = whole; hypotheses = []; numbered_hypotheses = 
 
 -- the statement that `entry` returns as x, with these parts
 abbrev pub entry_from_ref : EntryRef → Assertion → Entry
-entry_from_ref x a = record { kind = x.kind; label_count = x.before.label_count; symbol_count = x.before.symbol_count; last_active = x.before.last_active; symbols = x.symbols.now; assertion = a }
+entry_from_ref x a = record { kind = x.kind; size = x.size; label_count = x.before.label_count; symbol_count = x.before.symbol_count; last_active = x.before.last_active; symbols = x.symbols.now; assertion = a }
 
 -- the parts of the statement are whole, and c has them
 pub record IsWholeView (e : Entry) (c : AssertionView) : Type 0 where

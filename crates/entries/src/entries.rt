@@ -77,7 +77,8 @@ impl Entries {
         self.records.len()
     }
 
-    /// Returns the kind and symbols of the statement at an index, from 0, and the state before it.
+    /// Returns the kind, size and symbols of the statement at an index, from 0, and the state
+    /// before it.
     #[inline(always)]
     pub fn entry(&self, index: usize) -> EntryRef<'_>
         requires { index < length self.now }
@@ -92,6 +93,7 @@ impl Entries {
         } = self.stored(index);
         EntryRef {
             kind: statement_record.kind,
+            size: statement_record.size,
             before,
             symbols: part(numbers, layout.symbols, layout.hypotheses),
         }
@@ -284,6 +286,7 @@ fn add(
     append(
         records,
         &[StatementRecord {
+            size: header.size,
             from,
             groups_from: first,
             kind: header.kind,

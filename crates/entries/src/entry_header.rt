@@ -1,4 +1,5 @@
-//! The kind of a statement and the state before it, which are stored apart from its parts.
+//! The kind and the size of a statement and the state before it, which are stored apart from its
+//! parts.
 use crate::kind::Kind;
 use crate::last_active::LastActive;
 
@@ -13,18 +14,21 @@ pub struct StateBefore {
     pub last_active: LastActive,
 }
 
-/// A statement's kind, and the state before it, as `Entries::push` takes them.
+/// A statement's kind, its size, and the state before it, as `Entries::push` takes them.
 #[derive(Clone, Copy, Drop)]
 pub struct EntryHeader {
     pub kind: Kind,
+    /// The size that `frame` gives to an assertion; 0 for another statement.
+    pub size: u64,
     pub before: StateBefore,
 }
 
-/// A stored statement without its parts, as `Entries::entry` returns it: its kind, the state before
-/// it, and the numbers of its symbols.
+/// A stored statement without its parts, as `Entries::entry` returns it: its kind, its size, the
+/// state before it, and the numbers of its symbols.
 #[derive(Clone, Copy, Drop)]
 pub struct EntryRef<'a> {
     pub kind: Kind,
+    pub size: u64,
     pub before: StateBefore,
     pub symbols: &'a [u32],
 }

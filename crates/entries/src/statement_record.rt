@@ -2,10 +2,13 @@
 
 use crate::kind::Kind;
 
-/// The record of a statement, which is read first: its kind, and where its numbers and its groups
-/// begin in the buffers of all statements. They end where those of the next statement begin.
+/// The record of a statement, which is read first: its kind, its size, and where its numbers and
+/// its groups begin in the buffers of all statements. They end where those of the next statement
+/// begin.
 #[derive(Clone, Copy, Drop)]
 pub struct StatementRecord {
+    /// Its size, as `EntryHeader` says.
+    pub size: u64,
     /// Where its numbers begin: how many numbers earlier statements have.
     pub from: u32,
     /// Where its groups begin: how many groups earlier statements have.

@@ -1,5 +1,5 @@
 -- The item or the end where the run stops is the first fault.
-use Rattle.explain.proofs.Words.{nat_lt, nat_tests, ◌≡◌, Bool, true, false, ℕ, suc, ◌+◌, ◌-◌, ◌<◌, ◌≤◌, List, [], ◌∷◌, length, map, take, get_or, arith, refl, sym, ◌∙◌, ap, subst, Option, Some, None, slice_get, Name, Stmt, Database, Expr, decode, stmt_at, Carries, Item, Cite, Recall, Mark, item_of, items_of, ItemFault, TooManySymbols, NoMarkedResult, Reason, CitationGives, IsItemFault, RunsWithinLimit, IsFirstFault, IsPosition, ArePositions, Results, State, IsStopped, item-cite, get_or_default, same_Some, SYMBOLS_LIMIT, ◌≢◌, zero, ◌++◌, Vec, expr_of, UnknownLabel, start, IsSaved, Runs}
+use Rattle.explain.proofs.Words.{nat_lt, nat_tests, ◌≡◌, Bool, true, false, ℕ, suc, ◌+◌, ◌-◌, ◌<◌, ◌≤◌, List, [], ◌∷◌, length, map, take, get_or, arith, refl, sym, ◌∙◌, ap, subst, Option, Some, None, slice_get, Name, Stmt, Database, Expr, decode, stmt_at, Carries, Item, Cite, Recall, Mark, item_of, items_of, ItemFault, TooManySymbols, NoMarkedResult, Reason, CitationGives, IsItemFault, RunsWithinLimit, IsFirstFault, IsPosition, ArePositions, Results, State, IsStopped, item-cite, get_or_default, same_Some, SYMBOLS_LIMIT}
 use Rattle.explain.proofs.CitationFaultLemmas.{excerpt_named}
 use Rattle.explain.specs.declared.reason.Reason.TheVariants as reason
 use Rattle.explain.specs.FirstFault.{IsEndReason}

@@ -2,8 +2,8 @@
 use Rattle.explain.proofs.Words.{◌≡◌, ℕ, zero, suc, Bool, true, false, not, ◌&&◌, ◌||◌, List, [], ◌∷◌, length, take, map, arith, refl, sym, ◌∙◌, ap, ⊎_elim, Some, slice_get, list_any, or-true, or_cases, or_left, or_right, eqb-true, nat_eq, slice_get-get_or, and_comm, Numbered, Name, name_eq, name_eq-comm, name_same, has_name, Database, name_at, decode, AreDistinct, AllBelow, below-group, same-number, CodeImages, Images, code_image, is_pair, active_disjoint_lists}
 use Rattle.explain.specs.DisjointViolations.{IsViolation}
 use Rattle.explain.proofs.NamedLemmas.{AreSame}
-use Rattle.subst.proofs.VariableListLemmas.{below-has}
-use Rattle.subst.specs.Stored.VariableLists.{has_number}
+use Rattle.frame.proofs.PairListLemmas.{each-below}
+use Rattle.frame.specs.MandatoryPairs.{has_number}
 use Rattle.subst.specs.Violations.{IsViolation as IsNumberedViolation}
 use Rattle.subst.specs.declared.violation.DisjointViolation.{DisjointViolation}
 
@@ -11,7 +11,7 @@ use Rattle.subst.specs.declared.violation.DisjointViolation.{DisjointViolation}
 has_named : (names : List Name) (xs : List ℕ) (u : ℕ) → has_number xs u ≡ true → has_name (name_at names u) (decode names xs) ≡ true
 has_named names [] u h = h
 has_named names (x ∷ xs) u h = ⊎_elim
-    (λ same. ap (λ b. b || has_name (name_at names u) (decode names xs)) (ap (λ z. name_eq (name_at names u) (name_at names z)) (sym (eqb-true u x same)) ∙ name_same (name_at names u)))
+    (λ same. ap (λ b. b || has_name (name_at names u) (decode names xs)) (ap (λ z. name_eq (name_at names u) (name_at names z)) (eqb-true x u same) ∙ name_same (name_at names u)))
     (λ rest. ap (λ b. name_eq (name_at names u) (name_at names x) || b) (has_named names xs u rest) ∙ or-true (name_eq (name_at names u) (name_at names x)))
     (or_cases _ _ h)
 
@@ -25,7 +25,7 @@ has_front (suc i) (x ∷ xs) u h = ⊎_elim (λ same. or_left _ _ same) (λ rest
 -- the number at an index of a list is in the list
 has_at : (xs : List ℕ) (i u : ℕ) → slice_get xs i ≡ Some u → has_number xs u ≡ true
 has_at [] i u e = absurd (cc)
-has_at (x ∷ xs) zero u e = let same : x ≡ u = cc in or_left _ _ (let is : nat_eq u x ≡ true = grind (arith, same) in is)
+has_at (x ∷ xs) zero u e = let same : x ≡ u = cc in or_left _ _ (let is : nat_eq x u ≡ true = grind (arith, same) in is)
 has_at (x ∷ xs) (suc i) u e = or_right _ _ (has_at xs i u e)
 
 any-same : {A : Type 0} (p q : A → Bool) (xs : List A) → ((x : A) → p x ≡ q x) → list_any p xs ≡ list_any q xs
@@ -59,8 +59,8 @@ violation_named v σ τ groups w distinct same below h =
     let low = below-group (length names) groups k group below h.2 in
     let second_listed : has_number group w.second ≡ true = ap (has_number group) found.second ∙ has_at group h.3.0 _ (slice_get-get_or group h.3.0 0 h.3.1) in
     let first_listed : has_number group w.first ≡ true = has_front h.3.0 group w.first other.listed in
-    let second_low = below-has (length names) group w.second low second_listed in
-    let first_low = below-has (length names) group w.first low first_listed in
+    let second_low = each-below (length names) group w.second low second_listed in
+    let first_low = each-below (length names) group w.first low first_listed in
     let x = name_at names w.first in
     let y = name_at names w.second in
     let apart : name_eq x y ≡ false = sym (same-number names w.first w.second distinct first_low second_low) ∙ differ_swap w.second w.first (ap (λ z. nat_eq z w.first) found.second ∙ other.differ) in

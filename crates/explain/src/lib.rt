@@ -25,7 +25,7 @@ mod run;
 mod why;
 
 pub use excerpt::{EXCERPT_LEN, Excerpt};
-pub use proof_fault::explain;
+pub use proof_fault::{explain, items_of, labels_of};
 pub use reason::{ItemFault, Reason};
 pub use run::first_fault;
 pub use why::{CodeBreak, LetterBreak, LetterFault, WhyUnproved};

@@ -17,7 +17,7 @@ use frame::Frames;
 use mm_lex::Words;
 use proof_code::{Items, is_compressed, items_or_none, normal, packed};
 use std::alloc::{AllocError, Global};
-use verify::{Answer, Checker};
+use verify::{Answer, Checker, Meter};
 
 /// Returns why the tokens do not prove the `$p` at a position, or `None` if they do.
 ///
@@ -36,9 +36,10 @@ pub fn explain(
         (λ _. ¬ Proves frames.now.statements at tokens.now)) }
     ensures first { IfOk result (λ why. IfSome why (IsWhy frames.now.statements frames.now.names at tokens.now)) }
 {
-    match Checker::new(alloc).prove(frames, at, tokens)? {
+    match Checker::new(alloc).prove(frames, at, tokens, &mut Meter::new(None))? {
         Answer::Proved => Ok(None),
         Answer::Wrong => Ok(Some(explain_wrong(alloc, frames, at, tokens)?)),
+        Answer::TooCostly => unreachable!(),
     }
 }
 
@@ -68,8 +69,12 @@ fn explain_wrong(
 /// Returns the items that the tokens write under these mandatory labels, or `None` if they write
 /// none.
 ///
-/// Errors: an allocation fails.
-fn items_of(alloc: Global, tokens: &Words, mandatory: &Words) -> Result<Option<Items>, AllocError>
+/// Errors: an allocation fails. Cost: the size of the tokens, and that of `proof_code::packed`.
+pub fn items_of(
+    alloc: Global,
+    tokens: &Words,
+    mandatory: &Words,
+) -> Result<Option<Items>, AllocError>
     ensures { IfOk result (λ items. MatchOption items ((other : List Item) → ¬ Writes tokens.now mandatory.now other)
         (λ items. Writes tokens.now mandatory.now items)) }
 {
@@ -83,7 +88,8 @@ fn items_of(alloc: Global, tokens: &Words, mandatory: &Words) -> Result<Option<I
 /// Returns the labels of the mandatory hypotheses of the `$p` at a position, in order.
 ///
 /// Errors: an allocation fails, or a label is not a word; no parsed statement has such a label.
-fn labels_of(alloc: Global, frames: &Frames, at: usize) -> Result<Words, AllocError>
+/// Cost: the size of the labels, and that of `Frames::mandatory`.
+pub fn labels_of(alloc: Global, frames: &Frames, at: usize) -> Result<Words, AllocError>
     requires { (s : Statement) × IsProvable frames.now.statements at s }
     ensures { IfOk result
         (λ labels. (s : Statement) → IsProvable frames.now.statements at s

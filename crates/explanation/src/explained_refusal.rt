@@ -3,6 +3,7 @@
 ghost use Rattle.std.specs.Prelude.{◌≤◌, length, IfOk};
 
 use crate::broken_rule::explain_rule;
+use crate::limited_library::{explain_left_hypotheses, explain_too_costly};
 use crate::proof::{explain_in_database, explain_proof};
 use crate::shape_fault::explain_shape;
 use crate::text_fault::explain_text;
@@ -28,6 +29,11 @@ pub enum DatabaseFault {
     Proof { statement: usize },
     /// The proof of a `$p` is unfinished.
     Unfinished { statement: usize },
+    /// The library has a limit on work, and the text counts more: with this statement or its proof,
+    /// or, if the number is 0, by its bytes.
+    TooCostly { statement: usize, limit: u64 },
+    /// The library has a limit on work, and this `$e` or `$d` stands outside all blocks.
+    LeavesHypotheses { statement: usize },
 }
 
 /// Returns the lines that explain why the text is refused, at most 65,536 bytes. They are
@@ -101,5 +107,11 @@ fn push_lines(alloc: Global, lines: &mut Lines<'_>, text: &[u8], fault: Database
         ),
         DatabaseFault::Proof { statement } => explain_proof(alloc, lines, text, statement),
         DatabaseFault::Unfinished { statement } => explain_proof(alloc, lines, text, statement),
+        DatabaseFault::TooCostly { statement, limit } => {
+            explain_too_costly(alloc, lines, text, statement, limit)
+        }
+        DatabaseFault::LeavesHypotheses { statement } => {
+            explain_left_hypotheses(alloc, lines, text, statement)
+        }
     }
 }

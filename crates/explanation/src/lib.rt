@@ -7,8 +7,8 @@
 //! its messages have no contract.
 //!
 //! Reading order: `explained_refusal`, `written_lines`, `text_fault`, `shape_fault`, `broken_rule`
-//! with `statement_symbols`; `proof` with `text_tokens`, `theorem`, `item_spots`, `step_fault`,
-//! `expressions` and `code_break`.
+//! with `statement_symbols`; `limited_library`; `proof` with `text_tokens`, `theorem`,
+//! `item_spots`, `step_fault`, `expressions` and `code_break`.
 #![tactic(auto)]
 
 mod broken_rule;
@@ -16,6 +16,7 @@ mod code_break;
 mod explained_refusal;
 mod expressions;
 mod item_spots;
+mod limited_library;
 mod proof;
 mod shape_fault;
 mod statement_symbols;

@@ -60,6 +60,11 @@ impl<'a> Lines<'a> {
         Ok(bytes)
     }
 
+    /// Returns the number of bytes at the start of the text that are the statements of a library.
+    pub(crate) fn library_len(&self) -> usize {
+        self.library_len
+    }
+
     /// Records a failure, after which no lines are returned.
     pub(crate) fn fail(&mut self) {
         self.has_failed = true;

@@ -43,7 +43,7 @@ fn extract_text(alloc: Global, library: &Library, labels: &[&str]) -> Result<Vec
     ensures { IfOk result
         (λ text. IsExtract library.now.replica.statements (map (λ label. label.now) labels.now) text.items) }
 {
-    let mut part = Library::new(alloc);
+    let mut part = Library::new(alloc, None);
     extract_text_with(alloc, library, labels, &mut part)
 }
 

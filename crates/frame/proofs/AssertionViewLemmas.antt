@@ -1,5 +1,6 @@
 -- Reading an assertion that is stored, and its parts by numbers.
 use Rattle.frame.proofs.Words.{AllBelow, AreDescribed, AreGroupsOf, AreMandatoryPairs, AreReordered, Hypothesis, [], are_together, disjoint_symbols, filter, float_variables, groups_in, has_two_or_more_items, hypotheses, is_numbered_pair, kept_with, pairs_by, stored_pairs, sym, ◌∙◌, ap, subst, arith, ◌≡◌, ℕ, zero, suc, ◌+◌, ◌-◌, true, List, length, take, slice_get, Some, refl, Name, Stmt, expr_of, is_assertion, name_at, decode, HasAssertion, AssertionView, Entry, Assertion, IsWholeView, Kind, Axiom, Prove, Storage, AreBelow, AreListsOf, IsViewOf, IsWellTyped, HasLegalProperties, names_in, labels_in, stmt_by, stmt_of, statements_of, AreStored, IsKeptAs, has_parts}
+use Rattle.frame.specs.Sizes.{assertion_size}
 use Rattle.frame.proofs.DeclaredSymbolLemmas.{stored-distinct}
 use Rattle.frame.proofs.FoundByNumber.{map-back, own-expr, numbered-at}
 use Rattle.frame.proofs.KeptStatementLemmas.{kept-groups, kept-lists, lists-cited}
@@ -23,6 +24,7 @@ pub record IsThere (k : Storage) (a i : ℕ) (s : Stmt) (e : Entry) : Type 0 whe
   pub got : slice_get k.entries (a - 1) ≡ Some e
   pub is : stmt_of (names_in k) (labels_in k) e ≡ s
   pub kept : IsKeptAs k.entries (take (a - 1) (statements_of k)) s e.assertion
+  pub size : e.size ≡ assertion_size (take (a - 1) (statements_of k)) s
 
 pub is-there : (k : Storage) (a : ℕ) (s : Stmt) → AreStored k → HasAssertion (statements_of k) a s → (i : ℕ) × (e : Entry) × IsThere k a i s e
 is-there k zero s stored h = let g = h.0 in cc
@@ -30,7 +32,8 @@ is-there k (suc i) s stored h =
     let e = map-back (stmt_of (names_in k) (labels_in k)) k.entries i s h.0 in
     let is = sym e.2 in
     let back : i ≡ suc i - 1 = omega arith in
-    let kept = stored.kept.parts_kept i e.0 e.1 (parts-kind (names_in k) (labels_in k) e.0 (ap is_assertion is ∙ h.1)) in (
+    let asserts = ap is_assertion is ∙ h.1 in
+    let kept = stored.kept.parts_kept i e.0 e.1 (parts-kind (names_in k) (labels_in k) e.0 asserts) in (
       i,
       e.0,
       record {
@@ -39,6 +42,7 @@ is-there k (suc i) s stored h =
         got = ap (slice_get k.entries) (sym back) ∙ e.1;
         is = is;
         kept = subst (λ n. IsKeptAs k.entries (take n (statements_of k)) s e.0.assertion) back (subst (λ t. IsKeptAs k.entries (take i (statements_of k)) t e.0.assertion) is kept);
+        size = (stored.kept.sizes_kept i e.0 e.1).is asserts ∙ (ap (assertion_size (take i (statements_of k))) is ∙ ap (λ n. assertion_size (take n (statements_of k)) s) back);
       },
     )
 

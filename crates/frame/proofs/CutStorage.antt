@@ -1,6 +1,7 @@
 -- The storage after it is cut to its first statements, and after added statements are removed
 -- again.
 use Rattle.frame.proofs.Words.{sym, ◌∙◌, ap, subst, arith, take-take, ◌≡◌, ℕ, ◌+◌, ◌<◌, ◌≤◌, true, List, length, map, take, drop, slice_get, Some, refl, suc, [], ◌∷◌, Option, None, length-take-le, take-map, take-append-drop, take_at, length-map, Name, Database, IsNumberingOf, Declared, declared_symbols, declared_labels, stays_open, label_of, symbols_of, labels_of, prepend_option, LastActive, Entry, Disj, Var, last_active_of, stmt_of, statements_of, positions_from, AreAllLegal, AreGivenBy, replaced_of, last_float, names_in, labels_in, option_position, AreNumbered, KeepsCounts, HasMoreAtEnd, Storage, naming_of, AreKept, AreStored, Extends, has_parts, IsKeptAs, extends-length, extends-take, take-get, labels_of-append, AreKeptUntil}
+use Rattle.frame.specs.Stored.EntrySizes.{IsSizeOf}
 use Rattle.frame.proofs.TableLemmas.{table-back}
 use Rattle.frame.proofs.BlockWalkLemmas.{get-take}
 use Rattle.frame.proofs.DeclaredSymbolLemmas.{symbols_of-front}
@@ -122,6 +123,15 @@ module _ {names labels : List Name} {positions : List ℕ} {floats replaced : Li
       rw (front-of i lt, ← same, p.entries_cut)
       (kept-moved names labels entries (take n entries) i (stmt_of names labels d) d.assertion (sym (take-take i n entries (omega (arith, lt)))) (k.parts_kept i d q.1 a))
 
+  -- an assertion that remains has its size
+  sizes' : (i : ℕ) (d : Entry) → slice_get entries' i ≡ Some d → IsSizeOf (take i (map (stmt_of names' labels') entries')) (stmt_of names' labels' d) d.size
+  sizes' i d h =
+      let q = there i d h in
+      let here = ap (λ r. slice_get r i) (sym p.entries_cut) ∙ h in
+      let same : stmt_of names labels d ≡ stmt_of names' labels' d =
+      stmt-more names' names labels' labels d names-front labels-extend (numbered-at (length names') (length labels') (take n entries) numbered i d here) (label-below-at (length names') (length labels') (take n entries) numbered i d here) in
+      rw (front-of i q.0, ← same) (k.sizes_kept i d q.1)
+
   pub kept-cut : AreKept names' labels' positions' floats' replaced' entries' links'
   kept-cut = record {
     last = p.last_active_back ∙ (k.linked n e p.at ∙ ap last_active_of (sym cut-statements));
@@ -141,6 +151,7 @@ module _ {names labels : List Name} {positions : List ℕ} {floats replaced : Li
         c ∙ sym a;
     few = let a = names-count in let f = k.few in omega (arith, a, within, f);
     parts_kept = parts';
+    sizes_kept = sizes';
   }
 
 -- ---- the numbering of the first statements

@@ -1,5 +1,6 @@
 -- A statement is entered: the new entry has its meaning, and the storage has its parts.
 use Rattle.frame.proofs.Words.{sym, ◌∙◌, ap, subst, arith, length-append, inl, inr, ◌≡◌, ℕ, List, [], ◌∷◌, ◌++◌, length, take, slice_get, Option, Some, true, refl, ◌+◌, ◌<◌, ◌⊎◌, map, length-map, take-append-le, map_push, same_Some, take-append_seam, name_at-last, Name, Stmt, Database, bare, label_of, expr_of, is_assertion, is_essential, stays_open, declared_with, IsRecordedBy, IsLegal, name_at, decode, with_names, symbols_declared_by, symbols_in, symbols_of, symbols_after, labels_of, prepend_option, AreNumbers, AreVariableNumbers, AreRecorded, IsNumberingOf, numbering-after, recorded-after, symbols_of-append, labels_of-append, AreBelow, Assertion, Entry, entry_by, Kind, Ess, Storage, names_in, labels_in, stmt_by, stmt_of, statements_of, option_position, AreGivenBy, positions_from, AreAllLegal, AreStored, IsKeptOf, AreKept, floats_in, kept_with, has_parts, IsKeptAs, is_labelled_kind, kind_of, IsLabelBelow, HasTwoSymbolsIfFloat, HasMoreNames, HasRoom, AreNumbered, KeepsCounts, LastActive, last_active_of, naming_of, get-last, Extends, get-push, extends-length, bare-same, symbols_declared_by-bare, declared_with-bare, legal-bare, EntryHeader, IsEntryHeader, option_float, typed_by, with_float, last_float}
+use Rattle.frame.specs.Stored.EntrySizes.{IsSizeOf}
 use Rattle.frame.proofs.DeclaredSymbolLemmas.{codes-below}
 use Rattle.frame.proofs.NamingLemmas.{stored-naming, naming_of-append, symbols-extend}
 use Rattle.frame.proofs.StoredOneMore.{still-reads, numbered-at, statements-more, stmt-more, numbered-push, positions_from-push, legal-push, stays-push}
@@ -203,6 +204,18 @@ module _ {old new : Storage} {s : Stmt} {h : EntryHeader} {a : Assertion} {codes
       by (inr q) =
           rw (late i q.0, ← q.1, stands, entries-more) (kept-more (names_in old) (labels_in old) old.entries (e ∷ []) (bare s) a (p.kept (ap (λ w. has_parts w.kind) q.1 ∙ has)))
 
+  -- each assertion has its size, and so has the new one
+  sizes' : (i : ℕ) (d : Entry) → slice_get entries i ≡ Some d → IsSizeOf (take i (map (stmt_of (names_in new) (labels_in new)) entries)) (stmt_of (names_in new) (labels_in new) d) d.size
+  sizes' i d h = by (found i d h)
+    where
+      by : ((i < length old.entries) × (slice_get old.entries i ≡ Some d)) ⊎ ((i ≡ length old.entries) × (e ≡ d)) → IsSizeOf (take i (map (stmt_of (names_in new) (labels_in new)) entries)) (stmt_of (names_in new) (labels_in new) d) d.size
+      by (inl q) =
+          let same : stmt_of (names_in new) (labels_in new) d ≡ stmt_of (names_in old) (labels_in old) d =
+          stmt-more (names_in old) (names_in new) (labels_in old) (labels_in new) d names-extend labels-extend (numbered-at (length (names_in old)) (length (labels_in old)) old.entries x.stored.kept.coded i d q.1)
+          (label-below-at (length (names_in old)) (length (labels_in old)) old.entries x.stored.kept.coded i d q.1) in
+          rw (early i q.0, same) (x.stored.kept.sizes_kept i d q.1)
+      by (inr q) = rw (late i q.0, ← q.1, stands) x.header.size
+
   -- each entry has the counts of the names and labels before it, and so has the new one
   counts' : (i : ℕ) (d : Entry) → slice_get entries i ≡ Some d → KeepsCounts (names_in new) (labels_in new) entries i d
   counts' i d h = by (found i d h)
@@ -251,6 +264,7 @@ module _ {old new : Storage} {s : Stmt} {h : EntryHeader} {a : Assertion} {codes
         count = p.count ∙ p.room.count;
         few = p.room.few;
         parts_kept = parts';
+        sizes_kept = sizes';
       }
 
 -- the numbering with the names of the new statement is that of all statements

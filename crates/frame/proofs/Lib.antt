@@ -17,6 +17,12 @@ pub mod TableLemmas
 pub mod MentionWalkLemmas
 pub mod MentionListLemmas
 pub mod PairTableLemmas
+pub mod SumLemmas
+pub mod NewNumberLemmas
+pub mod MandatoryVariableLemmas
+pub mod DisjointWorkLemmas
+pub mod RowLemmas
+pub mod SizeLemmas
 pub mod PairsLemmas
 pub mod ActiveDisjointLemmas
 pub mod MakeLemmas

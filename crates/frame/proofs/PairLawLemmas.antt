@@ -1,5 +1,5 @@
 -- The lists of pairs decide whether images are disjoint as the groups do.
-use Rattle.frame.proofs.Words.{◌≡◌, Bool, true, false, not, ◌||◌, ◌&&◌, List, [], ◌∷◌, ◌++◌, map, filter, refl, sym, ◌∙◌, ap, inl, inr, true≢false, and_from, and_parts, and_comm, or_left, or_right, or_cases, or-false, list_all, list_any, false_from_ne_true, all-has, same_name, name_same, Name, name_eq, has_name, has_name-append, Stmt, Database, Expr, is_variable, is_pair, is_mandatory, mandatory_groups, active_disjoint_lists, Images, image, are_disjoint, is_group_disjoint, are_groups_disjoint, is_list_disjoint, are_lists_disjoint, pair_lists, PairListsDecideAsGroups}
+use Rattle.frame.proofs.Words.{◌≡◌, Bool, true, false, not, ◌||◌, ◌&&◌, List, [], ◌∷◌, ◌++◌, filter, refl, sym, ◌∙◌, ap, inl, inr, true≢false, and_from, and_parts, and_comm, or_left, or_right, or_cases, list_all, list_any, all-has, same_name, name_same, Name, name_eq, has_name, has_name-append, Database, Expr, is_variable, is_pair, is_mandatory, mandatory_groups, active_disjoint_lists, Images, image, are_disjoint, is_group_disjoint, are_groups_disjoint, are_lists_disjoint, pair_lists, PairListsDecideAsGroups}
 use Rattle.std.specs.Cmp.{both_ways}
 use Rattle.frame.proofs.GroupsLemmas.{has-filter, groups-pairs}
 
@@ -10,7 +10,7 @@ all-from p [] h = refl
 all-from p (x ∷ xs) h =
     and_from (p x) (list_all p xs) (h x (or_left (name_eq x x) (has_name x xs) (name_same x))) (all-from p xs (λ y k. h y (or_right (name_eq y x) (has_name y xs) k)))
 
-eq-turn : (x y : Name) → name_eq x y ≡ name_eq y x
+pub eq-turn : (x y : Name) → name_eq x y ≡ name_eq y x
 eq-turn x y = both_ways (name_eq x y) (name_eq y x) (λ e. ap (λ z. name_eq z x) (sym (same_name x y e)) ∙ name_same x) (λ e. ap (λ z. name_eq z y) (sym (same_name y x e)) ∙ name_same y)
 
 any-same : (p q : List Name → Bool) (ls : List (List Name)) → ((l : List Name) → p l ≡ q l) → list_any p ls ≡ list_any q ls
@@ -19,12 +19,12 @@ any-same p q (l ∷ ls) h = ap (λ b. b || list_any p ls) (h l) ∙ ap (λ b. q 
 
 -- ---- pairs and disjoint images have no order
 
-pair-turn : (S : Database) (x y : Name) → is_pair S x y ≡ is_pair S y x
+pub pair-turn : (S : Database) (x y : Name) → is_pair S x y ≡ is_pair S y x
 pair-turn S x y =
     ap (λ b. not b && list_any (λ names. has_name x names && has_name y names) (active_disjoint_lists S)) (eq-turn x y)
     ∙ ap (λ b. not (name_eq y x) && b) (any-same (λ names. has_name x names && has_name y names) (λ names. has_name y names && has_name x names) (active_disjoint_lists S) (λ names. and_comm (has_name x names) (has_name y names)))
 
-pair-none : (S : Database) (x : Name) → is_pair S x x ≡ false
+pub pair-none : (S : Database) (x : Name) → is_pair S x x ≡ false
 pair-none S x = rw (name_same x) refl
 
 disjoint-turn : (S : Database) (e f : Expr) → are_disjoint S e f ≡ true → are_disjoint S f e ≡ true

@@ -1,5 +1,5 @@
 -- The lists of the mandatory pairs of an assertion, by numbers.
-use Rattle.frame.proofs.Words.{◌≡◌, ℕ, zero, suc, ◌+◌, ◌<◌, ◌≤◌, Bool, true, false, cond, not, ◌||◌, ◌&&◌, ◌==◌, List, [], ◌∷◌, ◌++◌, length, map, filter, take, slice_get, get_or, drop, Some, refl, sym, ◌∙◌, ap, subst, arith, append-nil, append_assoc, map-append, filter-append, list_any, list_any_more, or-false, or_right, or_parts, or_from, and-false, nat_lt, true≢false, false_from_ne_true, any-filter_same, take_all, Result, Ok, Err, OnOk, OnErr, AddsBefore, IsPairList, Hypothesis, is_typed, is_typed_by, AreBelow, AllBelow, Name, name_at, decode, Numbered, is_pair, is_numbered_pair, has_number, with_number, with_floats, float_variables, pair_lists, has_two_or_more_items, pairs_by, with_list, IsEachOnce, HasEachOnce, IsReordered, AreReordered}
+use Rattle.frame.proofs.Words.{◌≡◌, ℕ, zero, suc, ◌+◌, ◌<◌, ◌≤◌, Bool, true, false, cond, not, ◌||◌, ◌&&◌, ◌==◌, List, [], ◌∷◌, ◌++◌, length, map, filter, take, slice_get, get_or, drop, Some, refl, sym, ◌∙◌, ap, subst, arith, append-nil, append_assoc, map-append, filter-append, list_any, list_any_more, or-false, or_right, or_parts, or_from, and-false, nat_lt, true≢false, false_from_ne_true, any-filter_same, take_all, Result, Ok, Err, OnOk, OnErr, AddsBefore, IsPairList, Hypothesis, is_typed, AreBelow, AllBelow, Name, name_at, decode, Numbered, is_pair, is_numbered_pair, has_number, with_number, with_floats, float_variables, pair_lists, has_two_or_more_items, pairs_by, with_list, IsEachOnce, IsReordered, AreReordered}
 use Rattle.entries.specs.declared.assertion_view.Hypothesis.TheVariants.{Float, Essential}
 
 -- ---- numbers in a list
@@ -110,7 +110,7 @@ filter-same : (n : ℕ) (p q : ℕ → Bool) (xs : List ℕ) → ((y : ℕ) → 
 filter-same n p q [] h b = refl
 filter-same n p q (x ∷ xs) h b = rw (h x b.0, filter-same n p q xs h b.1) refl
 
-below-push : (n : ℕ) (xs : List ℕ) (x : ℕ) → AreBelow n xs → x < n → AreBelow n (xs ++ x ∷ [])
+pub below-push : (n : ℕ) (xs : List ℕ) (x : ℕ) → AreBelow n xs → x < n → AreBelow n (xs ++ x ∷ [])
 below-push n [] x b l = (l, tt)
 below-push n (y ∷ xs) x b l = (b.0, below-push n xs x b.1 l)
 
@@ -121,7 +121,7 @@ pair-lists-same n p q before (x ∷ xs) h a b =
     ap (λ l. (x ∷ l) ∷ pair_lists p (before ++ x ∷ []) xs) (filter-same n (p x) (q x) before (λ y l. h x y b.0 l) a)
     ∙ ap (λ l. (x ∷ filter (q x) before) ∷ l) (pair-lists-same n p q (before ++ x ∷ []) xs h (below-push n before x a b.0) b.1)
 
-filter-below : (n : ℕ) (p : ℕ → Bool) (xs : List ℕ) → AreBelow n xs → AreBelow n (filter p xs)
+pub filter-below : (n : ℕ) (p : ℕ → Bool) (xs : List ℕ) → AreBelow n xs → AreBelow n (filter p xs)
 filter-below n p [] b = tt
 filter-below n p (x ∷ xs) b = by (p x) (filter-below n p xs b.1)
   where
@@ -182,7 +182,7 @@ reordered-below n (x ∷ a) (y ∷ b) all low = (list-below n x y all.0 low.0, r
 
 -- ---- names in place of numbers
 
-filter-named : (names : List Name) (p : Name → Bool) (xs : List ℕ) → decode names (filter (λ y. p (name_at names y)) xs) ≡ filter p (decode names xs)
+pub filter-named : (names : List Name) (p : Name → Bool) (xs : List ℕ) → decode names (filter (λ y. p (name_at names y)) xs) ≡ filter p (decode names xs)
 filter-named names p [] = refl
 filter-named names p (x ∷ xs) = by (p (name_at names x)) (filter-named names p xs)
   where
@@ -289,7 +289,7 @@ any-lists : (c : ℕ) (lists : List (List ℕ)) → list_any (λ l. has_number l
 any-lists c [] = refl
 any-lists c (l ∷ lists) = ap (λ b. b || list_any (λ m. has_number m c) lists) (sym (has-turn l c)) ∙ ap (λ b. list_any (λ d. c == d) l || b) (any-lists c lists)
 
-filter-has : (p : ℕ → Bool) (xs : List ℕ) (c : ℕ) → has_number (filter p xs) c ≡ (p c && has_number xs c)
+pub filter-has : (p : ℕ → Bool) (xs : List ℕ) (c : ℕ) → has_number (filter p xs) c ≡ (p c && has_number xs c)
 filter-has p xs c = any-filter_same (λ d. d == c) p (p c) (λ d e. let same : d ≡ c = grind (arith, e) in ap p same) xs
 
 below-take : (n k : ℕ) (xs : List ℕ) → AreBelow n xs → AreBelow n (take k xs)

@@ -1,6 +1,6 @@
 -- Pairs of variables in an active `$d`, and active variables, by the active statements that have a
 -- symbol.
-use Rattle.frame.proofs.Words.{are_together, disjoint_symbols, ◌≡◌, ◌∙◌, ap, sym, arith, refl, ℕ, suc, ◌+◌, ◌-◌, ◌<◌, Bool, true, false, cond, not, ◌||◌, ◌&&◌, ◌==◌, nat_eq, List, [], ◌∷◌, ◌++◌, length, map, filter, take, slice_get, Option, Some, None, length-take, same_Some, list_any, or-false, append_assoc, length-append, take-get, list_any-map, AllBelow, AreBelow, Name, has_name, name_at, decode, AreDistinct, Stmt, Database, Entry, Storage, stays_open, active_from, actives, actives_from, is_disj, is_var, is_variable, disjoint_names, variables, is_pair, active_disjoint_lists, names_in, labels_in, statements_of, stmt_of, AreStored, symbols_at, option_symbols, has_code, having_after, positions_with, IsOfKind, AreOfKind, AreListsOfPairs, have_both, subst}
+use Rattle.frame.proofs.Words.{are_together, disjoint_symbols, ◌≡◌, ◌∙◌, ap, sym, arith, refl, ℕ, suc, ◌+◌, ◌-◌, ◌<◌, Bool, true, false, cond, not, ◌||◌, ◌&&◌, ◌==◌, nat_eq, List, [], ◌∷◌, ◌++◌, length, map, filter, take, slice_get, Option, Some, None, same_Some, list_any, or-false, append_assoc, length-append, take-get, list_any-map, AllBelow, AreBelow, Name, has_name, name_at, decode, AreDistinct, Stmt, Database, Entry, Storage, stays_open, active_from, actives, actives_from, is_disj, is_var, is_variable, disjoint_names, variables, is_pair, active_disjoint_lists, names_in, labels_in, statements_of, stmt_of, AreStored, symbols_at, option_symbols, has_code, having_after, positions_with, IsOfKind, AreOfKind, AreListsOfPairs, have_both, subst}
 use Rattle.frame.proofs.FoundByNumber.{map-back}
 use Rattle.frame.proofs.LegalAfter.{stands-at}
 use Rattle.frame.proofs.MentionListLemmas.{with-below}
@@ -48,11 +48,11 @@ second-any f g (p ∷ ps) e = by (f p) (g p) (second-any f g ps) e
 
 -- ---- an active statement is at its position
 
-abbrev AreThere : Database → (Stmt → Bool) → List (ℕ × Stmt) → Type 0
+abbrev pub AreThere : Database → (Stmt → Bool) → List (ℕ × Stmt) → Type 0
 AreThere S kind [] = Unit {0}
 AreThere S kind (p ∷ ps) = ((slice_get S (p.0 - 1) ≡ Some p.1) × (kind p.1 ≡ true)) × AreThere S kind ps
 
-actives-there : (kind : Stmt → Bool) (whole front : Database) (at : ℕ) (S : Database) → at ≡ 1 + length front → whole ≡ front ++ S → AreThere whole kind (actives_from kind at S)
+pub actives-there : (kind : Stmt → Bool) (whole front : Database) (at : ℕ) (S : Database) → at ≡ 1 + length front → whole ≡ front ++ S → AreThere whole kind (actives_from kind at S)
 actives-there kind whole front at [] is cut = tt
 actives-there kind whole front at (s ∷ S) is cut =
     by (stays_open 0 S) (kind s) refl (actives-there kind whole (front ++ s ∷ []) (at + 1) S (omega (arith, is, length-append front (s ∷ []))) (cut ∙ sym (append_assoc front (s ∷ []) S)))
@@ -88,7 +88,7 @@ module _ (k : Storage) (stored : AreStored k) (d : AreDistinct (names_in k)) (m 
       ap (λ o. list_any (λ y. nat_eq x y) (option_symbols o)) e.1
       ∙ (has-decode N x e.0.symbols d lt (numbered-at (length N) (length (labels_in k)) k.entries stored.kept.coded (p.0 - 1) e.0 e.1) ∙ ap (has_name (name_at N x)) (sym list))
 
-  there : (kind : Stmt → Bool) → AreThere T kind (actives kind T)
+  pub there : (kind : Stmt → Bool) → AreThere T kind (actives kind T)
   there kind = actives-there kind T [] 1 T refl refl
 
   pub variable-is : (x : ℕ) (st : List ℕ) → x < length N → st ≡ positions_with k.entries x (actives is_var T) → list_any (λ y. true) st ≡ is_variable T (name_at N x)

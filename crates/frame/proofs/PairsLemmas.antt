@@ -1,12 +1,10 @@
 -- Names that no `$v` declares, and the lists of the active `$d`.
-use Rattle.frame.proofs.Words.{list_any, sym, ◌∙◌, ap, ◌≡◌, ℕ, ◌-◌, ◌<◌, Bool, true, false, cond, ◌&&◌, ◌==◌, List, [], ◌∷◌, length, map, take, slice_get, Some, refl, or_from, both_ways, false_from_ne_true, Name, name_eq, has_name, active, variables, name_at, decode, AreDistinct, AreBelow, take-get, Kind, Var, Entry, stmt_by, stmt_of, AreNumbered, ◌||◌, not, and_right, same_Some, Stmt, disjoint_names, names_in, labels_in, statements_of, Storage, AreStored, list_any-map, list_any-append, or-false, is_pair, active_disjoint_lists, actives, last_active_of, LastActive, Database, is_disj, and-or_distrib_left, or_comm}
-use Rattle.frame.proofs.BlockWalkLemmas.{walk-over, IsBack, walk-back}
+use Rattle.frame.proofs.Words.{list_any, sym, ◌∙◌, ap, ◌≡◌, ℕ, Bool, true, false, cond, List, [], ◌∷◌, length, map, take, slice_get, Some, refl, or_from, both_ways, false_from_ne_true, Name, name_eq, has_name, active, variables, name_at, decode, AreBelow, take-get, Kind, Var, Entry, stmt_by, stmt_of, AreNumbered, Stmt, disjoint_names, list_any-map, active_disjoint_lists, actives, Database, is_disj}
 use Rattle.frame.proofs.ActiveAfter.{active-stands}
 use Rattle.frame.proofs.LegalAfter.{stands-at}
-use Rattle.frame.proofs.StoredReading.{get-stmt}
 use Rattle.frame.proofs.StoredOneMore.{numbered-at}
 use Rattle.frame.proofs.FoundByNumber.{map-back}
-use Rattle.frame.proofs.KindWalk.{not-has, same-number, has-decode, any-active, disjoint_lists}
+use Rattle.frame.proofs.KindWalk.{not-has, any-active, disjoint_lists}
 
 -- ---- names without a number
 

@@ -5,6 +5,7 @@ use Rattle.mm_read.specs.declared.stmt.Stmt.TheVariants.{Axiom, Disj}
 use Rattle.frame.specs.Substitution.{Images}
 use Rattle.frame.specs.Sizes.{row, assertion_size, mandatory_variables}
 use Rattle.frame.specs.DisjointWork.{variables_in, disjointness}
+use Rattle.frame.specs.NumberedWork.{lists_work}
 
 -- ---- sizes
 
@@ -63,6 +64,10 @@ with_images x y = (codes "x", w (codes x)) ∷ (codes "y", w (codes y)) ∷ []
 -- 1 symbol each; for the one variable z of the image of y, its row of 2 and the one variable x
 one_each : disjointness rows_front row_ax row_seven (with_images "x" "z") ≡ 5
 one_each = refl
+
+-- the same by number, x being 0, y 1 and z 2, and the list that of y and x
+one_each_by_number : lists_work (record { statements = row_seven; names = w (codes "x y z") }) ((0, 0 ∷ []) ∷ (1, 2 ∷ []) ∷ []) ((1 ∷ 0 ∷ []) ∷ []) ≡ 5
+one_each_by_number = refl
 
 -- with `x R x` and `x z`: images of 3 and 2 symbols; for x and for z a row of 2, and the one variable
 -- x of the other image. That x is in both images ends nothing

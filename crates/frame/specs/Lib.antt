@@ -12,6 +12,7 @@ pub mod AssertionView
 pub mod WellTyped
 pub mod Sizes
 pub mod DisjointWork
+pub mod NumberedWork
 pub mod AtPosition
 pub mod LastActive
 pub mod Laws

@@ -5,6 +5,7 @@ pub mod EntryMeanings
 pub mod Counts
 pub mod AssertionParts
 pub mod Hypotheses
+pub mod EntrySizes
 pub mod Labels
 pub mod OneFrame
 pub mod Naming

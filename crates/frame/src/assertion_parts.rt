@@ -20,6 +20,7 @@ ghost use Rattle.frame.specs.MandatoryPairs.{AreReordered, pairs_by};
 ghost use Rattle.frame.specs.ListsOfPairs.{is_numbered_pair};
 ghost use Rattle.std.specs.List.{list_any};
 ghost use Rattle.frame.specs.Stored.EntryMeanings.{names_in, statements_of};
+ghost use Rattle.frame.specs.Stored.EntrySizes.{IsSizeOf};
 ghost use Rattle.frame.specs.FrameOf.{hypotheses};
 ghost use Rattle.frame.specs.Stored.OneFrame.{mandatory_positions};
 
@@ -28,6 +29,7 @@ use crate::mandatory::{add_essentials, find_floats};
 use crate::pair_buffer::PairBuffer;
 use crate::pairs::Pairs;
 use crate::shape::{has_parts, is_essential, kind};
+use crate::sizes::size_of_assertion;
 use crate::storage::Storage;
 use entries::buffer_part::between;
 use entries::{BufferPart, EntryRef, Hypotheses, Hypothesis, Kind, NO_TYPECODE, number_of};
@@ -175,23 +177,25 @@ fn fill_whole(storage: &Storage, at: usize, buffers: &mut FrameBuffers) -> Resul
 
 /// Finds the parts of an assertion or `$e` that is appended to the statements, by the numbers of
 /// its symbols: all mandatory hypotheses and pairs of an assertion if these are few; else, and for
-/// a `$e`, the `$f` of its own variables. Other statements have none.
+/// a `$e`, the `$f` of its own variables. Other statements have none. Returns the size of an
+/// assertion, 0 for another statement.
 ///
-/// Errors: an allocation fails.
+/// Errors: an allocation fails, or the size is 2^64 or more.
 pub fn fill_parts(
     storage: &Storage,
     buffers: &mut FrameBuffers,
     stmt: &Stmt,
     recorded: &SymbolNumbers,
-) -> Result<(), AllocError>
+) -> Result<u64, AllocError>
     requires stored { AreStored storage.now }
     requires recorded { AreRecorded (with_names (names_in storage.now) (symbols_declared_by stmt.now))
         (symbols_in stmt.now) recorded.now }
-    ensures { OnOk result (ArePartsFor storage.now (bare stmt.now) buffers.new) }
+    ensures parts { OnOk result (ArePartsFor storage.now (bare stmt.now) buffers.new) }
+    ensures size { IfOk result (IsSizeOf (statements_of storage.now) (bare stmt.now)) }
 {
     buffers.clear();
     if !has_parts(kind(stmt)) {
-        return Ok(());
+        return Ok(0);
     }
     let Some(codes) = recorded.numbers() else {
         return Err(AllocError);
@@ -203,19 +207,22 @@ pub fn fill_parts(
         codes,
     )?;
     if is_essential(stmt) {
-        return encode_hypotheses(
+        encode_hypotheses(
             storage,
             &buffers.hypotheses,
             &mut buffers.numbered_hypotheses,
             &mut buffers.typecodes,
-        );
+        )?;
+        return Ok(0);
     }
     let at = storage.entries.len() + 1;
     add_essentials(storage, at, &mut buffers.hypotheses)?;
+    let size = size_of_assertion(storage, at, &buffers.hypotheses, codes)?;
     if fill_whole(storage, at, buffers)? {
-        return Ok(());
+        return Ok(size);
     }
-    fill_own(storage, buffers, codes)
+    fill_own(storage, buffers, codes)?;
+    Ok(size)
 }
 
 /// Finds only the `$f` of the variables of an assertion that is appended to the statements.

@@ -52,16 +52,17 @@ fn extend(
     let at = storage.entries.len() as u32 + 1;
     let kind = kind(stmt);
     let last_active = last_active_after(storage, kind);
+    find_numbers(&storage.numbering, stmt, recorded);
+    let size = fill_parts(storage, buffers, stmt, recorded)?;
     let header = EntryHeader {
         kind,
+        size,
         before: StateBefore {
             label_count: to_u32(storage.numbering.label_count())?,
             symbol_count: storage.numbering.symbol_count() as u32,
             last_active: storage.last_active,
         },
     };
-    find_numbers(&storage.numbering, stmt, recorded);
-    fill_parts(storage, buffers, stmt, recorded)?;
     declare_next(alloc, storage, stmt, recorded)?;
     let Some(codes) = recorded.numbers() else {
         return Err(AllocError);
@@ -193,10 +194,11 @@ impl Frames {
     /// Appends the statement that the scope accepts next.
     ///
     /// Errors: an allocation fails, or a number is too large: that of symbols or the position of a
-    /// mandatory `$e` from 2^31 on, any other from 2^32 on; everything is as before. One step is
-    /// counted, whatever the outcome.
+    /// mandatory `$e` from 2^31 on, the size of an assertion from 2^64 on, any other from 2^32 on;
+    /// everything is as before. One step is counted, whatever the outcome.
     /// Cost: the statement's own size, and a sort of its `$f`; for an assertion also that of the
-    /// active `$e`, a sort, and up to 64 `$d`; for a `$}` the `$d` and `$v` that it makes inactive.
+    /// active `$e`, a sort, and for each mandatory variable the active `$d` that have it; for a
+    /// `$}` the `$d` and `$v` that it makes inactive.
     pub fn push(&mut self, scope: &Scope, stmt: &Stmt, steps: &mut Steps) -> Result<(), AllocError>
         requires same { scope.now.statements ≡ self.old.statements }
         requires legal { IsLegal scope.now.statements stmt.now }

@@ -6,6 +6,7 @@ ghost use Rattle.names.specs.Codes.{name_at, decode};
 ghost use Rattle.scope.specs.Active.{before, stmt_at, label_of, expr_of};
 ghost use Rattle.frame.specs.AtPosition.{IsPosition, ArePositions, HasLegalProperties, IsMeaning};
 ghost use Rattle.frame.specs.FrameOf.{HasAssertion, hypotheses};
+ghost use Rattle.frame.specs.Sizes.{assertion_size};
 ghost use Rattle.frame.specs.AssertionView.{AreBuffersOf, AreGroupsOf, IsViewOf};
 ghost use Rattle.frame.specs.Below.{AreBelow};
 
@@ -179,6 +180,20 @@ impl Frames {
             storage: &self.storage,
             at,
         }
+    }
+
+    /// Returns the size of the assertion at a position, which was counted when it was appended: its
+    /// mandatory hypotheses, the lengths of its conclusion and of its `$e`, and the rows of its
+    /// mandatory variables.
+    ///
+    /// Cost: a constant.
+    #[inline(always)]
+    pub fn size(&self, a: usize) -> u64
+        requires { (s : Statement) × HasAssertion self.now.statements a s }
+        ensures { (s : Statement) → stmt_at self.now.statements a ≡ Some s
+            → result ≡ assertion_size (before self.now.statements a) s }
+    {
+        self.storage.entries.entry(a - 1).size
     }
 
     /// Returns the parts of the assertion at a position, by numbers. Those that are not kept with

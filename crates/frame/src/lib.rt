@@ -9,8 +9,8 @@
 //!
 //! Reading order: `storage`, `shape`, `at_position`, `first_active`, `disjoints_with`, `pairs`,
 //! `pair_buffer`, `frame_buffers`; `symbol_numbers`, `next_mentions`, `declare`, `mandatory`,
-//! `assertion_parts`, `extend` (appending and truncating); `meaning`, `frames`, `disjoint_groups`,
-//! `active_disjoint` (queries); `assertion`, `one_frame`; `laws`.
+//! `sizes`, `assertion_parts`, `extend` (appending and truncating); `meaning`, `frames`,
+//! `disjoint_groups`, `active_disjoint` (queries); `assertion`, `one_frame`; `laws`.
 #![tactic(auto)]
 
 mod active_disjoint;
@@ -32,6 +32,7 @@ mod one_frame;
 mod pair_buffer;
 mod pairs;
 mod shape;
+mod sizes;
 mod storage;
 mod symbol_numbers;
 

@@ -1,6 +1,6 @@
 //! The disjoint variables at a position.
 ghost use Rattle.std.specs.Prelude.{◌≡◌, ◌==◌, ◌&&◌, ◌+◌, ◌-◌, ◌<◌, ◌≤◌, ℕ, not, false, length};
-ghost use Rattle.std.specs.Prelude.{take, IfNone};
+ghost use Rattle.std.specs.Prelude.{sum_by, take, IfNone};
 ghost use Rattle.std.specs.List.{list_any};
 ghost use Rattle.names.specs.Codes.{name_at, code_of};
 ghost use Rattle.scope.specs.Active.{is_variable};
@@ -8,6 +8,7 @@ ghost use Rattle.frame.specs.Below.{AllBelow};
 ghost use Rattle.entries.specs.Mentions.{positions_of};
 ghost use Rattle.frame.specs.LastActive.{actives, is_disj};
 ghost use Rattle.frame.specs.ListsOfPairs.{AreListsOfPairs, is_numbered_pair};
+ghost use Rattle.frame.specs.NumberedWork.{numbered_row};
 ghost use Rattle.frame.specs.Stored.EntryMeanings.{statements_of};
 ghost use Rattle.frame.specs.Stored.Stacks.{AreOfKind, IsOfKind, has_code, positions_with};
 ghost use Rattle.frame.specs.Stored.Whole.{AreStored};
@@ -71,6 +72,7 @@ impl<'a> Pairs<'a> {
             → is_numbered_pair self.now x y ≡ (not (x == y) && list_any (λ list. list_any (λ c. y == c) list) result) }
         ensures together { AreListsOfPairs self.now result }
         ensures below { AllBelow (length self.now.names) result }
+        ensures row { sum_by length result ≡ numbered_row self.now x }
     {
         DisjointsWith::new(self.storage, active_disjoints(self.storage, x, self.at))
     }

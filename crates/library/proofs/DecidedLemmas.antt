@@ -1,5 +1,5 @@
 -- The table of the states of entries when an entry is put into it.
-use Rattle.library.proofs.Words.{◌≡◌, ℕ, ◌==◌, ◌&&◌, List, [], ◌∷◌, ◌++◌, Option, Some, None, refl, arith, status, Cause, BTreeMap, get, is_at, Updates, EntryState, EntryVerdict, IsTableOf, key_cmp, verdict_of}
+use Rattle.library.proofs.Words.{◌≡◌, ℕ, ◌==◌, ◌&&◌, List, [], ◌∷◌, ◌++◌, Option, Some, None, refl, arith, status, Cause, BTreeMap, is_at, Updates, EntryState, EntryVerdict, IsTableOf, key_cmp, verdict_of}
 use mathlib.Core.Bool.{cond}
 use Rattle.library.specs.declared.decided.EntryState.TheVariants.{Undecided, Decided as Settled}
 

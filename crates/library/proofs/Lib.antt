@@ -15,6 +15,13 @@ pub mod AddingLemmas
 pub mod AheadLemmas
 pub mod ProvingLemmas
 pub mod CheckedDatabaseLemmas
+pub mod WorkLemmas
+pub mod ProofWorkLemmas
+mod LeavingLemmas
+mod UnlimitedLibraryLemmas
 mod PlainLibraryLemmas
+mod LimitLemmas
 mod Rows
+mod WorkRows
+mod TextLemmas
 pub mod DecidedLemmas

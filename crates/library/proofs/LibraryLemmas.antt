@@ -1,32 +1,32 @@
 -- A log has at most one library, which only grows and is good.
-use Rattle.library.proofs.Words.{◌≡◌, ℕ, ◌==◌, ◌&&◌, List, [], ◌∷◌, ◌++◌, Option, Some, None, refl, sym, ◌∙◌, ap, subst, append-nil, append_assoc, arith, map-append, option_map, both_ways, Stmt, Database, IsProvable, Submission, Text, Charter, Verdict, Added, Refused, Cause, may_declare, Good, ReplicaState, empty, status, status_of, decided_with, Decides, AppliesAt, Applies, Runs, IsLibraryOf, Entry}
-use Rattle.library.proofs.CausesLemmas.{one-verdict, one-reading}
+use Rattle.library.proofs.Words.{◌≡◌, ℕ, List, [], ◌∷◌, ◌++◌, Option, Some, None, refl, sym, ◌∙◌, ap, subst, append-nil, append_assoc, both_ways, Stmt, Database, IsProvable, Submission, Text, Charter, Verdict, Added, Refused, may_declare, Good, ReplicaState, empty, status_of, decided_with, Decides, AppliesAt, Applies, Runs, IsLibraryOf, Entry}
+use Rattle.library.proofs.CausesLemmas.{IsVerdict, one-verdict, one-reading}
 
 -- ---- one verdict and one replica
 
 text-verdict : (old new : ReplicaState) (submission : Submission) (v : Verdict) → Decides old (Text submission) v new
-    → Rattle.library.proofs.CausesLemmas.IsVerdict old.statements old.charter submission v
-text-verdict old new submission Added p = (p.0, p.1, p.2)
+    → IsVerdict old.limit old.statements old.charter submission v
+text-verdict old new submission Added p = (p.0, p.1)
 text-verdict old new submission (Refused cause) p = p.0
 text-verdict old new submission v p = p
 
 text-replica : (old new other : ReplicaState) (submission : Submission) (v : Verdict) → Decides old (Text submission) v new → Decides old (Text submission) v other → new ≡ other
 text-replica old new other submission Added p q =
-    p.3 ∙ (ap (λ T. record old { statements = old.statements ++ T; decided = decided_with old (Text submission) Added })
-    (one-reading submission.text p.0 q.0 p.1.readable.read q.1.readable.read) ∙ sym q.3)
+    p.2 ∙ (ap (λ T. record old { statements = old.statements ++ T; decided = decided_with old.decided (Text submission) Added })
+    (one-reading submission.text p.0 q.0 p.1.outcome_is.0.readable.read q.1.outcome_is.0.readable.read) ∙ sym q.2)
 text-replica old new other submission (Refused cause) p q = p.1 ∙ sym q.1
 text-replica old new other submission v p q = absurd p
 
 decides-one : (old new other : ReplicaState) (entry : Entry) (v w : Verdict) → Decides old entry v new → Decides old entry w other → (v ≡ w) × (new ≡ other)
 decides-one old new other (Text submission) v w p q =
-    let same = one-verdict old.statements old.charter submission v w (text-verdict old new submission v p) (text-verdict old other submission w q) in
+    let same = one-verdict old.limit old.statements old.charter submission v w (text-verdict old new submission v p) (text-verdict old other submission w q) in
     (same, text-replica old new other submission w (subst (λ u. Decides old (Text submission) u new) same p) q)
 decides-one old new other (Charter author serial names) Added Added p q = (refl, p.1 ∙ sym q.1)
 decides-one old new other (Charter author serial names) Added (Refused c) p q = absurd (both_ways (may_declare old.charter author) q.0 p.0)
 decides-one old new other (Charter author serial names) (Refused c) Added p q = absurd (both_ways (may_declare old.charter author) p.0 q.0)
 decides-one old new other (Charter author serial names) (Refused c) (Refused d) p q =
     let same : c ≡ d = p.1 ∙ sym q.1 in
-    (ap Refused same, p.2 ∙ (ap (λ e. record old { decided = decided_with old (Charter author serial names) (Refused e) }) same ∙ sym q.2))
+    (ap Refused same, p.2 ∙ (ap (λ e. record old { decided = decided_with old.decided (Charter author serial names) (Refused e) }) same ∙ sym q.2))
 decides-one old new other (Charter author serial names) Added w p q = absurd q
 decides-one old new other (Charter author serial names) (Refused c) w p q = absurd q
 decides-one old new other (Charter author serial names) v w p q = absurd p
@@ -53,7 +53,7 @@ stays : (old new : ReplicaState) → new.statements ≡ old.statements → Conti
 stays old new e = (([], e ∙ sym (append-nil old.statements)), λ good. subst Good (sym e) good)
 
 decides-continues : (old new : ReplicaState) (entry : Entry) (v : Verdict) → Decides old entry v new → Continues old new
-decides-continues old new (Text submission) Added p = let same = ap (λ r. r.statements) p.3 in ((p.0, same), λ good. subst Good (sym same) p.2)
+decides-continues old new (Text submission) Added p = let same = ap (λ r. r.statements) p.2 in ((p.0, same), λ good. subst Good (sym same) p.1.outcome_is.2)
 decides-continues old new (Text submission) (Refused cause) p = stays old new (ap (λ r. r.statements) p.1)
 decides-continues old new (Charter author serial names) Added p = stays old new (ap (λ r. r.statements) p.1)
 decides-continues old new (Charter author serial names) (Refused cause) p = stays old new (ap (λ r. r.statements) p.2)
@@ -102,14 +102,15 @@ runs-continues (entry ∷ log) old new p =
     ((one.0 ++ all.0, all.1 ∙ (ap (λ S. S ++ all.0) one.1 ∙ append_assoc old.statements one.0 all.0)), λ good. rest.1 (first.1 good))
 
 -- the library of a log with one more entry
-pub library-more : (log : List (Option Entry)) (old new : ReplicaState) (entry : Option Entry) (v : Verdict) → IsLibraryOf log old → Applies old entry v new → IsLibraryOf (log ++ entry ∷ []) new
-library-more log old new entry v p q = runs-append log (entry ∷ []) empty old new p (new, v, q, refl)
+pub library-more : (limit : Option ℕ) (log : List (Option Entry)) (old new : ReplicaState) (entry : Option Entry) (v : Verdict)
+    → IsLibraryOf limit log old → Applies old entry v new → IsLibraryOf limit (log ++ entry ∷ []) new
+library-more limit log old new entry v p q = runs-append log (entry ∷ []) (empty limit) old new p (new, v, q, refl)
 
 -- the statements of the library of a log are the first ones of the library of a longer log
-pub library-begins : (log more : List (Option Entry)) (one all : ReplicaState) → IsLibraryOf log one → IsLibraryOf (log ++ more) all → Grows one all
-library-begins log more one all p q =
-    let cut = runs-split log more empty all q in
-    (runs-continues more one all (subst (λ r. Runs r more all) (runs-one log empty cut.0 one cut.1 p) cut.2)).0
+pub library-begins : (limit : Option ℕ) (log more : List (Option Entry)) (one all : ReplicaState) → IsLibraryOf limit log one → IsLibraryOf limit (log ++ more) all → Grows one all
+library-begins limit log more one all p q =
+    let cut = runs-split log more (empty limit) all q in
+    (runs-continues more one all (subst (λ r. Runs r more all) (runs-one log (empty limit) cut.0 one cut.1 p) cut.2)).0
 
-pub library-good : (log : List (Option Entry)) (replica : ReplicaState) → IsLibraryOf log replica → Good replica.statements
-library-good log replica p = (runs-continues log empty replica p).1 good-empty
+pub library-good : (limit : Option ℕ) (log : List (Option Entry)) (replica : ReplicaState) → IsLibraryOf limit log replica → Good replica.statements
+library-good limit log replica p = (runs-continues log (empty limit) replica p).1 good-empty

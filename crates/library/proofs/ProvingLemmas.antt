@@ -1,7 +1,13 @@
 -- From the answer of the verifier to whether a `$p` is proved; the labels with which its tokens
 -- write items.
-use Rattle.library.proofs.Words.{◌≡◌, ℕ, ◌⊎◌, ◌↔◌, refl, true, false, IsTrue, List, map, Option, Some, None, Result, Ok, Err, IfOk, MatchOption, sym, ◌∙◌, ap, subst, inl, inr, both_ways, Name, Stmt, Database, bare, bares, before, proof_of, stmt_at, is_provable, Item, Writes, WritesFinishedCompressed, WritesFinishedNormal, IsMalformed, is_compressed, is_unfinished, label_or_empty, mandatory_labels, Proves, IsProvable, IsRight, IsAnswerTo, provable-bare, IsProvedIfProvable, HasItems, one_answer, malformed-none, ◌+◌, ◌<◌, [], ◌∷◌, ◌++◌, length, take, get_or, option_map, slice_get, slice_get-get_or, unwrap_or, map_more, Float, Ess, Prove, is_assertion, stmt_at-bares, hypotheses, is_hypothesis_kind, label_of-bare, CodeFault, Malformed, Answer, Proved, Wrong}
+use Rattle.library.proofs.Words.{◌≡◌, ℕ, ◌⊎◌, ◌↔◌, refl, true, false, IsTrue, List, map, Option, Some, None, Result, Ok, Err, IfOk, MatchOption, sym, ◌∙◌, ap, subst, inl, inr, both_ways, Name, Stmt, Database, bare, bares, before, proof_of, stmt_at, is_provable, Item, Writes, WritesFinishedCompressed, WritesFinishedNormal, IsMalformed, is_compressed, is_unfinished, label_or_empty, mandatory_labels, Proves, IsProvable, IsRight, IsAnswerIfAny, provable-bare, IsProvedIfProvable, HasItems, one_answer, malformed-none, ◌+◌, ◌<◌, [], ◌∷◌, ◌++◌, length, take, get_or, option_map, slice_get, slice_get-get_or, unwrap_or, map_more, Float, Ess, Prove, is_assertion, stmt_at-bares, hypotheses, is_hypothesis_kind, label_of-bare, CodeFault, Malformed, arith, Answer, Proved, Wrong}
 use Rattle.proof_code.specs.declared.fault.CodeFault.TheVariants.{Unfinished}
+use Rattle.verify.specs.Counted.{HasCountedAnswer, HasCountedProof}
+use Rattle.verify.specs.Metered.{Metered, metered, with_work}
+use Rattle.verify.specs.Work.{proof_work}
+use Rattle.library.specs.ProofJobs.{proof_work_at, theorem_work_of}
+use Rattle.library.specs.Work.{theorem_work}
+use Rattle.verify.specs.declared.answer.Answer.TheVariants.{TooCostly}
 use Rattle.library.proofs.FrontLemmas.{hypotheses-bare, IsHypothesisAt, kind-bare, hypotheses-at, hypothesis-there}
 
 -- ---- items
@@ -81,9 +87,10 @@ module _ (S F : Database) (at : ℕ) (s : Stmt) (same : F ≡ bares S) (provable
 
   -- an answer for the tokens is an answer for the `$p`
   pub judged-stands : {E : Type 0} (tokens : List Name) → proof_of s ≡ tokens → (r : Result Answer E)
-      → IfOk r (λ answer. IsAnswerTo answer (Proves F at tokens)) → IfOk r (λ answer. IsAnswerTo answer (IsProvedIfProvable S at))
+      → IfOk r (λ answer. IsAnswerIfAny answer (Proves F at tokens)) → IfOk r (λ answer. IsAnswerIfAny answer (IsProvedIfProvable S at))
   judged-stands tokens e (Ok Proved) h = proves-stands tokens e h
   judged-stands tokens e (Ok Wrong) h = λ stands. h (stands-proves tokens e stands)
+  judged-stands tokens e (Ok TooCostly) h = h
   judged-stands tokens e (Err x) h = h
 
 -- there is no `$p` at the position of another statement
@@ -98,6 +105,41 @@ bare-assertion s h = cc
 
 pub stands-bare : (S F : Database) (at : ℕ) (s : Stmt) → F ≡ bares S → IsProvable S at s → stmt_at F at ≡ Some (bare s)
 stands-bare S F at s same p = ap (λ U. stmt_at U at) same ∙ (stmt_at-bares S at ∙ ap (option_map bare) p.stands)
+
+-- what a proof counts does not depend on the proof that is kept with the statement
+theorem_work-bare : (S : Database) (s : Stmt) → is_provable s ≡ true → proof_work S (bare s) (proof_of s) ≡ theorem_work S s
+theorem_work-bare S (Prove label expr proof) h = refl
+theorem_work-bare S s h = absurd (let e = h in cc)
+
+-- the count of an answer is the work of the proof at the position
+pub judged-counts : {E : Type 0} (S F : Database) (at : ℕ) (s : Stmt) (m m' : Metered) (tokens : List Name) (r : Result Answer E) → F ≡ bares S → IsProvable S at s → proof_of s ≡ tokens
+    → IfOk r (HasCountedProof F at tokens m m') → IfOk r (HasCountedAnswer (proof_work_at S at) m m')
+judged-counts {E} S F at s m m' tokens r same p is h = by r h
+  where
+    work : proof_work (before F at) (bare s) (proof_of s) ≡ proof_work_at S at
+    work =
+        theorem_work-bare (before F at) s p.provable
+        ∙ (ap (λ U. theorem_work (before U at) s) same ∙ sym (ap (theorem_work_of (before (bares S) at)) p.stands))
+
+    one : (answer : Answer) → HasCountedProof F at tokens m m' answer → HasCountedAnswer (proof_work_at S at) m m' answer
+    one answer counted =
+        subst (λ w. HasCountedAnswer w m m' answer) work
+        (subst (λ ts. HasCountedAnswer (proof_work (before F at) (bare s) ts) m m' answer) (sym is) (counted (bare s) (stands-bare S F at s same p)))
+
+    by : (r : Result Answer E) → IfOk r (HasCountedProof F at tokens m m') → IfOk r (HasCountedAnswer (proof_work_at S at) m m')
+    by (Ok answer) h = one answer h
+    by (Err x) h = h
+
+-- a statement that is no `$p` counts nothing
+pub judged-nothing : (S : Database) (at : ℕ) (s : Stmt) (m : Metered) → stmt_at S at ≡ Some s → (is_provable s ≡ true → ⊥) → m ≡ with_work m (proof_work_at S at)
+judged-nothing S at s m stands other =
+    let none : proof_work_at S at ≡ 0 = ap (theorem_work_of (before (bares S) at)) stands ∙ by s other in
+    let same : m.count + proof_work_at S at ≡ m.count = omega (arith, none) in
+    sym (ap (λ n. metered n m.limit) same)
+  where
+    by : (s : Stmt) → (is_provable s ≡ true → ⊥) → theorem_work (before (bares S) at) s ≡ 0
+    by (Prove label expr proof) other = absurd (other refl)
+    by s other = refl
 
 pub has-assertion : (S F : Database) (at : ℕ) (s : Stmt) → F ≡ bares S → IsProvable S at s → (x : Stmt) × ((stmt_at F at ≡ Some x) × IsTrue (is_assertion x))
 has-assertion S F at s same p = (bare s, (stands-bare S F at s same p, bare-assertion s p.provable))

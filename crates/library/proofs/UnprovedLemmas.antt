@@ -1,7 +1,17 @@
 -- The positions of the `$p` after the first statements, and the first of these that is not proved.
-use Rattle.library.proofs.Words.{◌≡◌, ℕ, zero, suc, ◌+◌, ◌-◌, ◌<◌, ◌≤◌, List, [], ◌∷◌, ◌++◌, length, get_or, Option, Some, None, slice_get, slice_get-get_or, get_or_default, ◌∙◌, ap, sym, subst, arith, inl, inr, cases_eq, cases_order, Stmt, Database, stmt_at, IsProvable, AreProofs, AreProvablesAfter, IsProvedIfProvable, AreProvedBetween, IsLeastUnproved, true, AreShaped, is_shaped, and_parts, list_all, take, drop, cases_lt, take-append-drop, IsProved, AreProvedTo, list_all-append, IsLeast}
-use Rattle.library.proofs.FrontLemmas.{stands_index}
+use Rattle.library.proofs.Words.{◌≡◌, ◌⊎◌, ℕ, zero, suc, ◌+◌, ◌-◌, ◌<◌, ◌≤◌, false, List, [], ◌∷◌, ◌++◌, length, get_or, Some, slice_get, slice_get-get_or, get_or_default, ◌∙◌, ap, sym, subst, arith, inl, inr, refl, cases_eq, cases_order, length-append, length-map, map-append, Stmt, Database, bare, bares, before, stmt_at, IsProvable, AreProofs, AreProvablesAfter, IsProvedIfProvable, AreProvedBetween, true, AreShaped, is_shaped, and_parts, list_all, take, drop, cases_lt, take-append-drop, IsProved, AreProvedTo, list_all-append, IsRightProof}
+use Rattle.verify.specs.Metered.{Metered, is_past, with_work}
+use Rattle.verify_pool.specs.FirstStop.{IsFirstStop}
+use Rattle.verify_pool.specs.declared.outcome.Outcome.{Outcome}
+use Rattle.verify_pool.specs.declared.outcome.Outcome.TheVariants.{AllRight, Wrong}
+use Rattle.verify_pool.specs.declared.outcome.Outcome.TheVariants as pool
+use Rattle.library.specs.Added.{AreKnown, IsProvedAhead}
+use Rattle.library.specs.ProofJobs.{AreProvedBefore, IsProofStop, ProofsAt, proof_work_at, proofs_work, theorem_work_of, work_of_proof}
+use Rattle.library.specs.declared.adding.AddOutcome.{AddOutcome}
+use Rattle.library.proofs.FrontLemmas.{before-front, stands_index, stmt_at-front}
 use Rattle.library.proofs.GoodLemmas.{provable-where, proved-later}
+use Rattle.library.proofs.ProofWorkLemmas.{proofs_work-between, work_to-all, work_to-before, work_to-through}
+use Rattle.library.proofs.WorkLemmas.{with_work-add}
 
 -- ---- one more statement
 
@@ -58,9 +68,9 @@ module _ (S : Database) where
   abbrev pub FrontProved : ℕ → List ℕ → Type 0
   FrontProved count ps = (k : ℕ) → k < count → IsProvedIfProvable S (get_or ps k 0)
 
-  -- the `$p` at the position is not proved, and those before it are proved
-  abbrev pub IsFirst : ℕ → ℕ → ℕ → Type 0
-  IsFirst front end at = (front < at) × (at ≤ end) × (IsProvedIfProvable S at → ⊥) × ((m : ℕ) → front < m → m < at → IsProvedIfProvable S m)
+  -- the position is after `front`, and the `$p` between them are proved
+  abbrev pub IsNext : ℕ → ℕ → ℕ → Type 0
+  IsNext front end at = (front < at) × (at ≤ end) × AreProvedBefore S front at
 
   all-proved : (front end : ℕ) (ps : List ℕ) → AreProvablesAfter S front end ps → FrontProved (length ps) ps → (at : ℕ) → front < at → at ≤ end → IsProvedIfProvable S at
   all-proved front end [] are right at above below = λ s p. absurd (are at s above below p)
@@ -73,44 +83,73 @@ module _ (S : Database) where
         ]
       ]
 
-  first-bad : (front end : ℕ) (ps : List ℕ) (i : ℕ) → AreProvablesAfter S front end ps → FrontProved i ps → i < length ps → (IsProvedIfProvable S (get_or ps i 0) → ⊥) → IsFirst front end (get_or ps i 0)
-  first-bad front end [] i are right less wrong = absurd (omega (arith, less))
-  first-bad front end (first ∷ ps) zero are right less wrong = (are.0, are.1, wrong, (λ m above below s p. absurd (are.2 m s above below p)))
-  first-bad front end (first ∷ ps) (suc i) are right less wrong =
-      let r = first-bad first end ps i are.3 (λ k below. right (suc k) (omega (arith, below))) (omega (arith, less)) wrong in
+  next-at : (front end : ℕ) (ps : List ℕ) (i : ℕ) → AreProvablesAfter S front end ps → FrontProved i ps → i < length ps → IsNext front end (get_or ps i 0)
+  next-at front end [] i are right less = absurd (omega (arith, less))
+  next-at front end (first ∷ ps) zero are right less = (are.0, are.1, (λ m above below s p. absurd (are.2 m s above below p)))
+  next-at front end (first ∷ ps) (suc i) are right less =
+      let r = next-at first end ps i are.3 (λ k below. right (suc k) (omega (arith, below))) (omega (arith, less)) in
       let above = r.0 in (
         omega (arith, are.0, above),
         r.1,
-        r.2,
         (λ m over below. elim (cases_order m first) [
           | inl q ↦ subst (IsProvedIfProvable S) (sym q) (right 0 (omega arith))
           | inr other ↦ elim other [
             | inl before ↦ (λ s p. absurd (are.2 m s over before p))
-            | inr more ↦ r.3 m more below
+            | inr more ↦ r.2 m more below
           ]
         ]),
       )
 
-  module _ (front : ℕ) (ps : List ℕ) (are : AreProvablesAfter S front (length S) ps) (answer : Option ℕ) (least : IsLeast (λ k. IsProvedIfProvable S (get_or ps k 0)) (length ps) answer) where
-    pub none-unproved : answer ≡ None → IsLeastUnproved S front None
-    none-unproved e =
-        let l = subst (IsLeast (λ k. IsProvedIfProvable S (get_or ps k 0)) (length ps)) e least in
-        all-proved front (length S) ps are (λ k less. l.before k less tt)
+  -- the outcome of the jobs, by position
+  module _ (front : ℕ) (ps : List ℕ) (low : front ≤ length S) (are : AreProvablesAfter S front (length S) ps) (m m' : Metered) where
+    abbrev jobs : ProofsAt
+    jobs = record { statements = S; positions = ps }
 
-    pub some-unproved : (i : ℕ) → answer ≡ Some i → IsLeastUnproved S front (Some (get_or ps i 0))
-    some-unproved i e =
-        let l = subst (IsLeast (λ k. IsProvedIfProvable S (get_or ps k 0)) (length ps)) e least in
-        first-bad front (length S) ps i are (λ k below. let w = l.wrong.0 in l.before k (omega (arith, below, w)) below) l.wrong.0 l.wrong.1
+    abbrev Stops : Outcome → Type 0
+    Stops outcome = IsFirstStop (IsRightProof jobs) (work_of_proof jobs) (length ps) m m' outcome
 
-    pub some-within : (i : ℕ) → answer ≡ Some i → i < length ps
-    some-within i e = let l = subst (IsLeast (λ k. IsProvedIfProvable S (get_or ps k 0)) (length ps)) e least in l.wrong.0
+    pub all-right : Stops AllRight → IsProofStop S front m m' AllRight
+    all-right h = (
+      all-proved front (length S) ps are h.0.each,
+      h.1 ∙ ap (with_work m) (work_to-all S (length S) front ps low are),
+      subst (λ n. is_past n ≡ false) (sym h.1) h.0.within,
+    )
+
+    pub wrong-at : (i : ℕ) → Stops (Wrong i) → IsProofStop S front m m' (Wrong (get_or ps i 0))
+    wrong-at i h =
+        let next = next-at front (length S) ps i are h.0.before.each h.0.stands in
+        (next.0, next.1, h.0.wrong, next.2, subst (λ n. is_past (with_work m n) ≡ false) (work_to-through S (length S) front ps i are h.0.stands) h.0.within)
+
+    pub costly-at : (i : ℕ) → Stops (pool.TooCostly i) → IsProofStop S front m m' (pool.TooCostly (get_or ps i 0))
+    costly-at i h =
+        let next = next-at front (length S) ps i are h.before.each h.stands in
+        let above = next.0 in (
+          next.0,
+          next.1,
+          next.2,
+          record {
+            some = omega (arith, above);
+            within = subst (λ n. is_past (with_work m n) ≡ false) (work_to-before S (length S) front ps i are h.stands) h.before.within;
+            past = subst (λ n. is_past (with_work m n) ≡ true) (work_to-through S (length S) front ps i are h.stands) h.past;
+          },
+        )
+
+    pub stop-within : (i : ℕ) (outcome : Outcome) → Stops outcome → (outcome ≡ Wrong i) ⊎ (outcome ≡ pool.TooCostly i) → i < length ps
+    stop-within i outcome h is = elim is as (λ _. i < length ps) [ inl e ↦ (subst Stops e h).0.stands | inr e ↦ (subst Stops e h).stands ]
 
 -- ---- first statements that were judged before
 
--- if no `$p` is unproved, each is proved up to the last statement
-pub all-to : (S : Database) → IsLeastUnproved S 0 None → AreProvedTo S (length S)
-all-to S h zero below = λ s p. absurd (let e = p.stands in cc)
-all-to S h (suc n) below = h (suc n) (omega arith) below
+-- if each `$p` is right, each is proved up to the last statement
+pub all-to : (S : Database) (m m' : Metered) → m.count ≡ 0 → IsProofStop S 0 m m' AllRight → IsProvedAhead S (length S) m'.count
+all-to S m m' none h = record {
+  within = omega arith;
+  proved = proved;
+  counted = (let same : length S - 0 ≡ length S = omega arith in let e = ap (λ n. n.count) h.1 in let f = ap (proofs_work S 0) same in omega (arith, none, e, f));
+}
+  where
+    proved : AreProvedTo S (length S)
+    proved zero below = λ s p. absurd (let e = p.stands in cc)
+    proved (suc n) below = h.0 (suc n) (omega arith) below
 
 -- a `$p` that is proved among the first statements stays proved when others are appended
 pub to-later : (S : Database) (count end : ℕ) → end ≤ length (take count S) → AreProvedTo (take count S) end → AreProvedTo S end
@@ -124,20 +163,77 @@ to-later S count end within are at below s p =
     none zero e q = absurd (let f = q.stands in cc)
     none (suc n) e q = absurd (omega (arith, e, below, within))
 
--- the first unproved `$p` after those that are known to be proved is the first of all
-pub known-least : (S : Database) (front known : ℕ) (found : Option ℕ) → AreProvedBetween S front known → IsLeastUnproved S known found → IsLeastUnproved S front found
-known-least S front known None h least = λ at above within. elim (cases_lt known at) [ inl more ↦ least at more within | inr less ↦ h.proved at above less ]
-known-least S front known (Some at) h least = (
-  (let a = least.0 in let low = h.low in omega (arith, a, low)),
-  least.1,
-  least.2,
-  (λ m above below. elim (cases_lt known m) [ inl more ↦ least.3 m more below | inr less ↦ h.proved m above less ]),
-)
+-- what the proofs of the first statements count does not depend on later ones
+proof_work_at-front : (S T : Database) (at : ℕ) → at ≤ length S → proof_work_at (S ++ T) at ≡ proof_work_at S at
+proof_work_at-front S T at within =
+    let count = length-map S bare in
+    ap (theorem_work_of (before (bares (S ++ T)) at)) (stmt_at-front S T at within)
+    ∙ ap (λ U. theorem_work_of U (stmt_at S at))
+    (ap (λ V. before V at) (map-append bare S T) ∙ before-front (bares S) (bares T) at (omega (arith, within, count)))
+
+proofs_work-front : (S T : Database) (k : ℕ) → k ≤ length S → proofs_work (S ++ T) 0 k ≡ proofs_work S 0 k
+proofs_work-front S T zero within = refl
+proofs_work-front S T (suc k) within =
+    let place : 0 + suc k ≤ length S = omega (arith, within) in
+    let rest = proofs_work-front S T k (omega (arith, within)) in
+    let one = proof_work_at-front S T (0 + suc k) place in
+    omega (arith, rest, one)
+
+pub ahead-later : (S : Database) (count end work : ℕ) → IsProvedAhead (take count S) end work → IsProvedAhead S end work
+ahead-later S count end work h =
+    let fewer = length-take-least count S in record {
+      within = omega (arith, h.within, fewer);
+      proved = to-later S count end h.within h.proved;
+      counted = h.counted ∙ (sym (proofs_work-front (take count S) (drop count S) end h.within) ∙ ap (λ U. proofs_work U 0 end) (take-append-drop count S));
+    }
+  where
+    length-take-least : (n : ℕ) (l : Database) → length (take n l) ≤ length l
+    length-take-least n l = let parts = ap length (take-append-drop n l) in let sum = length-append (take n l) (drop n l) in omega (arith, parts, sum)
+
+-- proofs that are judged after those that are known are judged after all before them
+module _ (S : Database) (start from : ℕ) (known : AreProvedBetween S start from) (m m' : Metered) (began : m' ≡ with_work m (proofs_work S start (from - start))) where
+  whole : (end : ℕ) → from ≤ end → with_work m' (proofs_work S from (end - from)) ≡ with_work m (proofs_work S start (end - start))
+  whole end h =
+      ap (λ k. with_work k (proofs_work S from (end - from))) began
+      ∙ with_work-add m (proofs_work S start (from - start)) (proofs_work S from (end - from)) (proofs_work S start (end - start)) (sym (proofs_work-between S start from end known.low h))
+
+  before-too : (at : ℕ) → AreProvedBefore S from at → AreProvedBefore S start at
+  before-too at before k above below = elim (cases_lt from k) [ inl more ↦ before k more below | inr less ↦ known.proved k above less ]
+
+  pub stop-from : (m'' : Metered) (outcome : Outcome) → IsProofStop S from m' m'' outcome → IsProofStop S start m m'' outcome
+  stop-from m'' AllRight h = (
+    (λ at above within. elim (cases_lt from at) [ inl more ↦ h.0 at more within | inr less ↦ known.proved at above less ]),
+    h.1 ∙ whole (length S) known.within,
+    h.2,
+  )
+  stop-from m'' (Wrong at) h =
+      let low = known.low in let a = h.0 in
+      let within : from ≤ at = omega (arith, a) in
+      (omega (arith, low, a), h.1, h.2, before-too at h.3, subst (λ k. is_past k ≡ false) (whole at within) h.4)
+  stop-from m'' (pool.TooCostly at) h =
+      let low = known.low in let a = h.0 in
+      let before : from ≤ at - 1 = omega (arith, a) in
+      let within : from ≤ at = omega (arith, a) in
+      let one : at - 1 - from ≡ at - from - 1 = omega (arith, a) in
+      let other : at - 1 - start ≡ at - start - 1 = omega (arith, a, low) in (
+        omega (arith, low, a),
+        h.1,
+        before-too at h.2,
+        record {
+          some = omega (arith, low, a);
+          within = subst (λ n. is_past (with_work m (proofs_work S start n)) ≡ false) other
+              (subst (λ k. is_past k ≡ false) (whole (at - 1) before) (subst (λ n. is_past (with_work m' (proofs_work S from n)) ≡ false) (sym one) h.3.within));
+          past = subst (λ k. is_past k ≡ true) (whole at within) h.3.past;
+        },
+      )
 
 -- the facts on a text before which there are no statements
-pub known-alone : (T : Database) (known : ℕ) → known ≤ length T → AreProvedTo T known → (L : Database) → length L ≡ 0 → AreProvedBetween (L ++ T) (length L) known
-known-alone T known within are [] alone = record { low = omega arith; within = within; proved = λ at above below. are at below }
-known-alone T known within are (s ∷ L) alone = absurd (omega (arith, alone))
+pub known-alone : (T : Database) (a : AddOutcome) → IsProvedAhead T a.proved_to a.proofs_work → (L : Database) → length L ≡ 0 → AreKnown (L ++ T) (length L) a
+known-alone T a h [] alone = record {
+  proved = record { low = omega arith; within = h.within; proved = λ at above below. h.proved at below };
+  work = (let same : a.proved_to - 0 ≡ a.proved_to = omega arith in h.counted ∙ ap (proofs_work T 0) (sym same));
+}
+known-alone T a h (s ∷ L) alone = absurd (omega (arith, alone))
 
 -- the first of well-shaped statements are well shaped
 pub shaped-front : (S : Database) (count : ℕ) → AreShaped S → AreShaped (take count S)

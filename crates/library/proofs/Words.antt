@@ -13,8 +13,7 @@ pub use Rattle.library.specs.Added.{AreProvedTo, IsAdded, IsAddedAfter, count_of
 pub use Rattle.library.specs.Causes.{IsAllowed, IsCause, IsFault, IsFirstUnproved, IsReadable}
 pub use Rattle.library.specs.Charters.{first_declaration, first_forbidden, is_rising, may_declare}
 pub use Rattle.library.specs.Good.{Good, IsProved}
-pub use Rattle.library.specs.Judging.{Extends, IsChecked, IsJudged, AreProvedBetween, IsLeastUnproved, IsReading, IsProvedIfProvable}
-pub use Rattle.library.specs.Laws.{without_charter}
+pub use Rattle.library.specs.Judging.{AreProvedBetween, IsChecked, IsJudged, IsPastAt, IsProvedIfProvable, IsReading, judged_statements}
 pub use Rattle.library.specs.LibraryOf.{Applies, AppliesAt, Decides, EntryVerdict, IsLibraryOf, ReplicaState, Runs, author_of, decided_with, empty, serial_of, status, status_of}
 pub use Rattle.library.specs.LibraryState.{IsTableOf, HasFewStepsForEntry, HasFewStepsForText, key_cmp, verdict_of}
 pub use Rattle.library.specs.Listed.{listed, listed_of}
@@ -90,12 +89,11 @@ pub use Rattle.verify.proofs.RightLemmas.{provable-bare}
 pub use Rattle.verify.specs.Concludes.{ConcludeAll, Concludes}
 pub use Rattle.verify.specs.Derivations.{Derivation, Derivations, apply, hyp, more}
 pub use Rattle.verify.specs.Proves.{Proves, label_or_empty, mandatory_labels}
-pub use Rattle.verify.specs.Right.{Derives, IsProvable, IsRight, IsAnswerTo}
+pub use Rattle.verify.specs.Right.{Derives, IsAnswerIfAny, IsProvable, IsRight}
 pub use Rattle.verify.specs.Spells.{Spells, SpellsAll, cites_assertion, cites_hypothesis, marks, recalls, spells_more, spells_none}
 pub use Rattle.verify.specs.declared.answer.Answer.{Answer}
-pub use Rattle.verify.specs.declared.answer.Answer.TheVariants.{Proved, Wrong}
+pub use Rattle.verify.specs.declared.answer.Answer.TheVariants.{Proved, TooCostly as CostlyAnswer, Wrong}
 pub use Rattle.verify_pool.proofs.JobsLemmas.{get-last, get-more, stmt_stays}
-pub use Rattle.verify_pool.specs.Least.{IsLeast}
 pub use base.Fml.{Fml}
 pub use base.Logic.{SProp, emp, ent, fst∗, via}
 pub use contract.Lifetimes.{Lfts, Shares}

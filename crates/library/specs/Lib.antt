@@ -1,8 +1,10 @@
 pub mod Words
 pub mod Charters
 pub mod Good
+pub mod Work
 pub mod Causes
 pub mod LibraryOf
+pub mod UnlimitedLibraryOf
 pub mod PlainLibraryOf
 pub mod Laws
 pub mod Judging

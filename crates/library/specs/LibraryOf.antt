@@ -10,8 +10,7 @@ use Rattle.library.specs.declared.verdict.Verdict.{Verdict}
 use Rattle.library.specs.declared.verdict.Verdict.TheVariants.{Added, Nothing, Repeat, Refused}
 use Rattle.library.specs.declared.verdict.Cause.TheVariants.{NotChartered}
 use Rattle.library.specs.Charters.{may_declare}
-use Rattle.library.specs.Good.{Good}
-use Rattle.library.specs.Causes.{IsAllowed, IsCause}
+use Rattle.library.specs.Causes.{IsCause, IsJudgedTo}
 
 -- the author of an entry, its serial number, and its size in bytes
 abbrev pub author_of : Entry → ℕ
@@ -32,19 +31,21 @@ pub record EntryVerdict : Type 0 where
   pub serial : ℕ
   pub verdict : Verdict
 
--- the state of a replica: the statements added, the verdicts decided, and the charter in force
+-- the state of a replica: the statements added, the verdicts decided, the charter in force, and the
+-- greatest work that an entry may count, which no entry changes (`None`: without a limit)
 pub record ReplicaState : Type 0 where
   pub statements : Database
   pub decided : List EntryVerdict
   pub charter : Option (List ℕ)
+  pub limit : Option ℕ
 
 -- no statements, no verdicts, no charter
-abbrev pub empty : ReplicaState
-empty = record { statements = []; decided = []; charter = None }
+abbrev pub empty : Option ℕ → ReplicaState
+empty limit = record { statements = []; decided = []; charter = None; limit = limit }
 
--- these statements, without verdicts and charter
+-- these statements, without verdicts, charter and limit
 abbrev pub holding : Database → ReplicaState
-holding S = record { statements = S; decided = []; charter = None }
+holding S = record { statements = S; decided = []; charter = None; limit = None }
 
 -- the verdict first decided on an author's entry of that serial number
 abbrev pub status : List EntryVerdict → ℕ → ℕ → Option Verdict
@@ -56,24 +57,24 @@ abbrev pub status_of : ReplicaState → Entry → Option Verdict
 status_of replica entry = status replica.decided (author_of entry) (serial_of entry)
 
 -- the verdicts, with this one on the entry
-abbrev pub decided_with : ReplicaState → Entry → Verdict → List EntryVerdict
-decided_with old entry verdict =
-    old.decided ++ record { author = author_of entry; serial = serial_of entry; verdict = verdict } ∷ []
+abbrev pub decided_with : List EntryVerdict → Entry → Verdict → List EntryVerdict
+decided_with decided entry verdict =
+    decided ++ record { author = author_of entry; serial = serial_of entry; verdict = verdict } ∷ []
 
 -- an entry that was not decided before turns the replica old into new, with this verdict
 abbrev pub Decides : ReplicaState → Entry → Verdict → ReplicaState → Type 0
 Decides old (Text submission) Added new =
-    (T : Database) × IsAllowed old.charter submission T × Good (old.statements ++ T)
-    × (new ≡ record old { statements = old.statements ++ T; decided = decided_with old (Text submission) Added })
+    (T : Database) × IsJudgedTo old.limit old.statements old.charter submission T None
+    × (new ≡ record old { statements = old.statements ++ T; decided = decided_with old.decided (Text submission) Added })
 Decides old (Text submission) (Refused cause) new =
-    IsCause old.statements old.charter submission cause
-    × (new ≡ record old { decided = decided_with old (Text submission) (Refused cause) })
+    IsCause old.limit old.statements old.charter submission cause
+    × (new ≡ record old { decided = decided_with old.decided (Text submission) (Refused cause) })
 Decides old (Charter author serial names) Added new =
     (may_declare old.charter author ≡ true)
-    × (new ≡ record old { decided = decided_with old (Charter author serial names) Added; charter = Some names })
+    × (new ≡ record old { decided = decided_with old.decided (Charter author serial names) Added; charter = Some names })
 Decides old (Charter author serial names) (Refused cause) new =
     (may_declare old.charter author ≡ false) × (cause ≡ NotChartered 0)
-    × (new ≡ record old { decided = decided_with old (Charter author serial names) (Refused cause) })
+    × (new ≡ record old { decided = decided_with old.decided (Charter author serial names) (Refused cause) })
 Decides old entry verdict new = ⊥
 
 -- an entry turns the replica old into new, given the verdict decided before under its author and
@@ -93,6 +94,6 @@ abbrev pub Runs : ReplicaState → List (Option Entry) → ReplicaState → Type
 Runs old [] new = new ≡ old
 Runs old (entry ∷ log) new = (mid : ReplicaState) × (verdict : Verdict) × Applies old entry verdict mid × Runs mid log new
 
--- the library of a log
-abbrev pub IsLibraryOf : List (Option Entry) → ReplicaState → Type 0
-IsLibraryOf log replica = Runs empty log replica
+-- the library of a log under a limit, if there is one
+abbrev pub IsLibraryOf : Option ℕ → List (Option Entry) → ReplicaState → Type 0
+IsLibraryOf limit log replica = Runs (empty limit) log replica

@@ -2,7 +2,7 @@
 -- Source: this project's profile.
 -- The code has the statements three times: as they were read, as the state of the rules, and as
 -- frames.
-use Rattle.std.specs.Prelude.{◌≡◌, ℕ, ◌+◌, ◌*◌, ◌≤◌, List, length, Option, Some, None, ⊤}
+use Rattle.std.specs.Prelude.{◌≡◌, ℕ, ◌+◌, ◌*◌, ◌≤◌, List, length, Option, Some, None, Result, Ok, Err, ⊤}
 use Rattle.library.specs.Words.{Database, Reads}
 use Rattle.library.specs.declared.submission.Submission.{Submission}
 use Rattle.library.specs.declared.entry.Entry.{Entry}
@@ -10,6 +10,8 @@ use Rattle.library.specs.declared.entry.Entry.TheVariants.{Text, Charter}
 use Rattle.library.specs.declared.verdict.Cause.{Cause}
 use Rattle.library.specs.declared.verdict.Verdict.{Verdict}
 use Rattle.library.specs.declared.verdict.Verdict.TheVariants.{Added, Refused}
+use Rattle.library.specs.Causes.{IsCause, IsJudgedTo}
+use Rattle.library.specs.Work.{text_work}
 use Rattle.library.specs.declared.decided.EntryState.{EntryState}
 use Rattle.library.specs.declared.decided.EntryState.TheVariants.{Undecided, Decided}
 use Rattle.library.specs.LibraryOf.{EntryVerdict, ReplicaState, status, status_of}
@@ -41,6 +43,19 @@ key_cmp a b = ordering_then (nat_cmp a.0 b.0) (nat_cmp a.1 b.1)
 -- the table has the first verdict on each entry
 abbrev pub IsTableOf : List EntryVerdict → BTreeMap (ℕ × ℕ) EntryState → Type 0
 IsTableOf entries table = (author serial : ℕ) → verdict_at (get key_cmp table (author, serial)) ≡ status entries author serial
+
+-- the work that was counted, or the cause of refusal if there is one
+abbrev pub work_or_cause : Option Cause → ℕ → Result ℕ Cause
+work_or_cause None n = Ok n
+work_or_cause (Some cause) n = Err cause
+
+-- the work of a submission that the replica would add next, or the cause for which it would be
+-- refused
+abbrev pub IsWorkOf : ReplicaState → Submission → Result ℕ Cause → Type 0
+IsWorkOf replica submission (Ok n) =
+    (T : Database) × IsJudgedTo replica.limit replica.statements replica.charter submission T None
+    × (n ≡ text_work replica.statements submission.text T)
+IsWorkOf replica submission (Err cause) = IsCause replica.limit replica.statements replica.charter submission cause
 
 -- a decided entry is added or refused
 abbrev pub IsDecision : Verdict → Type 0

@@ -1,18 +1,18 @@
--- The library of a log of texts, by a definition without charters.
--- Source: this project's profile without charters.
--- No code uses it; a law says that the library of a log without charters is this one.
-use Rattle.std.specs.Prelude.{◌≡◌, ◌≢◌, ◌<◌, ◌≤◌, List, [], ◌∷◌, ◌++◌, length, Option, Some, None}
-use Rattle.library.specs.Words.{Name, LexFault, IsLexFault, Database, HasTokens, IsNoDatabase}
-use Rattle.mm_lex.specs.declared.fault.LexFault.TheVariants as lex
+-- The library of a log of texts, by a definition without charters and limits.
+-- Source: this project's profile without charters and limits.
+-- No code uses it; a law says that the library of a log without charters, without a limit, is this one.
+use Rattle.std.specs.Prelude.{◌≡◌, ◌<◌, List, [], ◌∷◌, ◌++◌, length, Option, Some, None}
+use Rattle.library.specs.Words.{Database}
+use Rattle.library.specs.declared.entry.Entry.TheVariants.{Text}
 use Rattle.library.specs.declared.submission.TheConstants.{MAX_BYTES}
 use Rattle.library.specs.declared.submission.Submission.{Submission}
 use Rattle.library.specs.declared.verdict.Verdict.{Verdict}
 use Rattle.library.specs.declared.verdict.Verdict.TheVariants.{Added, Nothing, Repeat, Refused}
 use Rattle.library.specs.declared.verdict.Cause.{Cause}
-use Rattle.library.specs.declared.verdict.Cause.TheVariants.{TooLong, Text, Shape}
+use Rattle.library.specs.declared.verdict.Cause.TheVariants.{TooLong, Text as BadText, Shape}
 use Rattle.library.specs.Good.{Good}
-use Rattle.library.specs.Causes.{IsReadable, IsFault}
-use Rattle.library.specs.LibraryOf.{EntryVerdict, status}
+use Rattle.library.specs.Causes.{HasLexFault, HasNoShape, IsFault, IsReadable}
+use Rattle.library.specs.LibraryOf.{EntryVerdict, decided_with, status}
 
 -- the statements added and the verdicts decided
 pub record PlainReplicaState : Type 0 where
@@ -22,28 +22,21 @@ pub record PlainReplicaState : Type 0 where
 abbrev pub plain_empty : PlainReplicaState
 plain_empty = record { statements = []; decided = [] }
 
--- the verdicts, with this one on the submission
-abbrev pub plain_decided_with : PlainReplicaState → Submission → Verdict → List EntryVerdict
-plain_decided_with old submission verdict =
-    old.decided ++ record { author = submission.author; serial = submission.serial; verdict = verdict } ∷ []
-
 -- why the submission is not added after L
 abbrev pub IsPlainCause : Database → Submission → Cause → Type 0
 IsPlainCause L submission TooLong = MAX_BYTES < length submission.text
-IsPlainCause L submission Text =
-    (length submission.text ≤ MAX_BYTES) × ((fault : LexFault) × IsLexFault submission.text fault × (fault ≢ lex.Memory))
-IsPlainCause L submission Shape =
-    (length submission.text ≤ MAX_BYTES) × ((tokens : List Name) × HasTokens submission.text tokens × IsNoDatabase tokens)
+IsPlainCause L submission BadText = HasLexFault submission.text
+IsPlainCause L submission Shape = HasNoShape submission.text
 IsPlainCause L submission cause = (T : Database) × IsReadable submission.text T × IsFault L T cause
 
 -- a text that was not decided before turns the replica old into new, with this verdict
 abbrev pub PlainDecides : PlainReplicaState → Submission → Verdict → PlainReplicaState → Type 0
 PlainDecides old submission Added new =
     (T : Database) × IsReadable submission.text T × Good (old.statements ++ T)
-    × (new ≡ record { statements = old.statements ++ T; decided = plain_decided_with old submission Added })
+    × (new ≡ record { statements = old.statements ++ T; decided = decided_with old.decided (Text submission) Added })
 PlainDecides old submission (Refused cause) new =
     IsPlainCause old.statements submission cause
-    × (new ≡ record { statements = old.statements; decided = plain_decided_with old submission (Refused cause) })
+    × (new ≡ record { statements = old.statements; decided = decided_with old.decided (Text submission) (Refused cause) })
 PlainDecides old submission verdict new = ⊥
 
 -- a text turns the replica old into new, given the verdict decided before under its author and

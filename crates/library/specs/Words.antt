@@ -10,7 +10,7 @@ pub use Rattle.mm_read.specs.declared.stmt.Stmt.{Stmt}
 pub use Rattle.mm_read.specs.declared.stmt.Stmt.TheVariants.{Axiom, Const, Prove}
 pub use Rattle.proof_code.specs.Writes.{Writes, right_parenthesis, is_unfinished}
 pub use Rattle.proof_code.specs.declared.item.Item.{Item}
-pub use Rattle.scope.specs.Active.{bares, is_closed, is_provable, proof_of, stmt_at}
+pub use Rattle.scope.specs.Active.{bares, before, is_closed, is_provable, proof_of, stays_open, stmt_at}
 pub use Rattle.scope.specs.Legal.{AllLegal, first_broken}
 pub use Rattle.verify.specs.Proves.{label_or_empty, mandatory_labels}
 pub use Rattle.verify.specs.Right.{Derives, IsProvable, IsRight, IsSmall}

@@ -30,7 +30,8 @@ mod verdict;
 pub use charter::{MAX_NAMES, Names};
 pub use entry::Entry;
 pub use laws::{
-    libraries_are_good, libraries_grow, one_library, one_verdict, plain_without_charters,
+    libraries_are_good, libraries_grow, limit_keeps_statements, no_limit, one_library, one_verdict,
+    plain_without_charters, too_costly_if_past, works_add_up,
 };
 pub use library::Library;
 pub use listed::Listed;

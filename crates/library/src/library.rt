@@ -1,14 +1,16 @@
 //! One replica: the statements that the entries of a log validly add, and the verdicts on them.
-ghost use Rattle.std.specs.Prelude.{◌≡◌, ◌≤◌, None, Some, IfOk, IfSome, OnErr, option_map};
-ghost use Rattle.library.specs.Added.{Adds};
+ghost use Rattle.std.specs.Prelude.{◌≡◌, ◌≤◌, false, None, Some, IfOk, IfSome, OnErr, option_map};
+ghost use Rattle.library.specs.Added.{Adds, MayBeAdded};
 ghost use Rattle.library.specs.Good.{Good};
 ghost use Rattle.library.specs.Judging.{ReadsTexts};
 ghost use Rattle.library.specs.LibraryOf.{Applies, empty, holding, status};
-ghost use Rattle.library.specs.LibraryState.{IsDecision, HasFewSteps, verdict_of};
-ghost use Rattle.library.specs.ProofJobs.{FindsFirstWrong};
+ghost use Rattle.library.specs.LibraryState.{IsDecision, IsWorkOf, HasFewSteps};
+ghost use Rattle.library.specs.LibraryState.{HasFewStepsForText, verdict_of, work_or_cause};
+ghost use Rattle.library.specs.ProofJobs.{JudgesProofs};
 ghost use Rattle.mm_read.specs.Statements.{AreShaped};
 ghost use Rattle.scope.specs.Active.{bares};
 ghost use Rattle.std.specs.Fn.{FnReturnsAt};
+ghost use Rattle.verify.specs.Metered.{is_past};
 
 use crate::adding::{AddOutcome, Parallel, StepCounts, Tables, add_all, add_all_verifying};
 use crate::charter::Names;
@@ -17,6 +19,7 @@ use crate::decided::{DecidedEntries, DecidedEntry, EntryState};
 use crate::entry::Entry;
 use crate::entry_text::{may_declare, read_text};
 use crate::proof_jobs::Proofs;
+use crate::submission::Submission;
 use crate::verdict::{Cause, Verdict};
 use frame::Frames;
 use mm_read::{ReadFault, Stmt, read};
@@ -26,7 +29,8 @@ use std::alloc::{AllocError, Global};
 use std::collections::BTreeMap;
 use std::marker::Model;
 use std::thread::Threads;
-use verify_pool::{Checkers, Gate, PoolSize, judge_all, judge_here};
+use verify::Meter;
+use verify_pool::{Checkers, Gate, Outcome, PoolSize, judge_all, judge_here};
 
 /// The statements added, the state of each entry by its author and serial number, and the charter
 /// in force. Contracts see a replica (`ReplicaState` of `specs/LibraryOf`, with the verdicts in the
@@ -41,6 +45,7 @@ pub struct Library {
     entry_states: BTreeMap<(u64, u64), EntryState>,
     decided: DecidedEntries,
     charter: Option<Names>,
+    limit: Option<u64>,
     steps: StepCounts,
 }
 
@@ -50,15 +55,17 @@ impl Model for Library {
 
     ghost Value = { LibraryModel };
 
-    ghost view = { λ a. record { replica = record { statements = a.database; decided = a.decided.entries; charter = a.charter }; steps = count_of a.steps } };
+    ghost view = { λ a. record { replica = record { statements = a.database; decided = a.decided.entries; charter = a.charter; limit = a.limit }; steps = count_of a.steps } };
 
     ghost invariant = { λ a. IsTableOf a.decided.entries a.entry_states };
 }
 
 impl Library {
     /// Returns a library without statements, verdicts and charter. Does not allocate.
-    pub fn new(alloc: Global) -> Library
-        ensures replica { result.replica ≡ empty }
+    ///
+    /// `limit` is the greatest work that an entry may count, or `None` if there is no limit.
+    pub fn new(alloc: Global, limit: Option<u64>) -> Library
+        ensures replica { result.replica ≡ empty limit }
         ensures steps { result.steps ≡ 0 }
     {
         Library {
@@ -66,6 +73,7 @@ impl Library {
             entry_states: BTreeMap::new(alloc),
             decided: DecidedEntries::none(),
             charter: None,
+            limit,
             steps: StepCounts {
                 calling: Steps::new(),
                 ahead: Steps::new(),
@@ -73,8 +81,8 @@ impl Library {
         }
     }
 
-    /// Returns a library of good statements, given with their rules and frames, without verdicts
-    /// and charter. Does not allocate. Judges nothing: the caller knows that the statements are
+    /// Returns a library of good statements, given with their rules and frames, without verdicts,
+    /// charter and limit. Does not allocate. Judges nothing: the caller knows that the statements are
     /// good (`Good`).
     ///
     /// Cost: a constant.
@@ -91,6 +99,7 @@ impl Library {
             entry_states: BTreeMap::new(alloc),
             decided: DecidedEntries::none(),
             charter: None,
+            limit: None,
             steps: StepCounts {
                 calling: Steps::new(),
                 ahead: Steps::new(),
@@ -115,15 +124,16 @@ impl Library {
             (option_map (λ e. e.now) next.entry) self.old.steps self.new.steps }
     {
         let alloc = self.database.alloc();
-        let add = |statements: &[Stmt], tables: &mut Tables, steps: &mut StepCounts, _checkers: &mut Checkers| -> AddOutcome
-            requires { AreShaped statements.now × (tables.now.frames.statements ≡ tables.now.rules.statements) }
-        { add_all(statements, tables, &mut steps.calling) };
-        self.apply_by(
-            next,
-            &|text: &[u8]| read(alloc, text),
-            &add,
-            &|proofs: &Proofs<'_>, checkers: &mut Checkers| judge_here(checkers, proofs),
-        )
+        let add = |statements: &[Stmt], tables: &mut Tables, steps: &mut StepCounts, _checkers: &mut Checkers, meter: &mut Meter| -> AddOutcome
+            requires { MayBeAdded statements.now tables.now meter.now }
+        { add_all(statements, tables, &mut steps.calling, meter) };
+        let judge = |proofs: &Proofs<'_>, checkers: &mut Checkers, meter: &mut Meter| -> Result<
+            Outcome,
+            AllocError,
+        >
+            requires { is_past meter.now ≡ false }
+        { judge_here(checkers, proofs, meter) };
+        self.apply_by(next, &|text: &[u8]| read(alloc, text), &add, &judge)
     }
 
     /// Applies the next entry as `apply` does, its text read and its proofs judged in parallel, by
@@ -162,39 +172,69 @@ impl Library {
             alloc,
             workers,
             gate,
+            limit: self.limit,
         };
         let count = workers.count();
-        let add = |statements: &[Stmt], tables: &mut Tables, steps: &mut StepCounts, checkers: &mut Checkers| -> AddOutcome
-            requires { AreShaped statements.now × (tables.now.frames.statements ≡ tables.now.rules.statements) }
-        { add_all_verifying(&parallel, statements, tables, steps, checkers) };
+        let add = |statements: &[Stmt], tables: &mut Tables, steps: &mut StepCounts, checkers: &mut Checkers, meter: &mut Meter| -> AddOutcome
+            requires { MayBeAdded statements.now tables.now meter.now }
+        { add_all_verifying(&parallel, statements, tables, steps, checkers, meter) };
+        let judge = |proofs: &Proofs<'_>, checkers: &mut Checkers, meter: &mut Meter| -> Result<
+            Outcome,
+            AllocError,
+        >
+            requires { is_past meter.now ≡ false }
+        { judge_all(rt, checkers, proofs, workers, gate, meter) };
         self.apply_by(
             next,
             &|text: &[u8]| read_in_parts(rt, alloc, text, count),
             &add,
-            &|proofs: &Proofs<'_>, checkers: &mut Checkers| {
-                judge_all(rt, checkers, proofs, workers, gate)
-            },
+            &judge,
         )
     }
 
+    /// Returns the work of the submission if it would be added next, whoever submitted it before
+    /// and under which number; otherwise the cause for which it would be refused. Adds nothing.
+    /// Judges the text as `apply` does, and raises the count of steps as much.
+    ///
+    /// Errors: an allocation fails. Cost: that of `apply`.
+    pub fn work(&mut self, submission: &Submission) -> Result<Result<u64, Cause>, AllocError>
+        ensures work { IfOk result (IsWorkOf self.old.replica submission.now) }
+        ensures same { self.new.replica ≡ self.old.replica }
+        ensures rises { self.old.steps ≤ self.new.steps }
+        ensures counted { HasFewStepsForText submission.now self.old.steps self.new.steps }
+    {
+        let alloc = self.database.alloc();
+        let add = |statements: &[Stmt], tables: &mut Tables, steps: &mut StepCounts, _checkers: &mut Checkers, meter: &mut Meter| -> AddOutcome
+            requires { MayBeAdded statements.now tables.now meter.now }
+        { add_all(statements, tables, &mut steps.calling, meter) };
+        let judge = |proofs: &Proofs<'_>, checkers: &mut Checkers, meter: &mut Meter| -> Result<
+            Outcome,
+            AllocError,
+        >
+            requires { is_past meter.now ≡ false }
+        { judge_here(checkers, proofs, meter) };
+        let read = |text: &[u8]| read(alloc, text);
+        let text = match read_text(self.limit, &self.charter, submission, &read)? {
+            Ok(text) => text,
+            Err(cause) => return Ok(Err(cause)),
+        };
+        let database = &mut self.database;
+        let judged = database.extend(text, false, &mut self.steps, &add, &judge)?;
+        Ok(work_or_cause(judged.0, judged.1))
+    }
+
     /// Applies the next entry, where `read` returns the statements of a text, `add` adds statements
-    /// to the tables, and `first_wrong` returns the index of the first proof that is not right, or
-    /// `None` if each is right. The statements of a text are added if the whole list is good with
-    /// them; a charter that is added is in force from now on.
+    /// to the tables, and `judge` judges proofs in order. The statements of a text are added if the
+    /// whole list is good with them and the work is within the limit; a charter that is added is in
+    /// force from now on.
     fn apply_by<
         T: Fn(&[u8]) -> Result<Vec<Stmt>, ReadFault>,
-        E: Fn(&[Stmt], &mut Tables, &mut StepCounts, &mut Checkers) -> AddOutcome,
-        F: Fn(&Proofs<'_>, &mut Checkers) -> Result<Option<usize>, AllocError>,
-    >(
-        &mut self,
-        next: Option<&Entry>,
-        read: &T,
-        add: &E,
-        first_wrong: &F,
-    ) -> Result<Verdict, AllocError>
+        E: Fn(&[Stmt], &mut Tables, &mut StepCounts, &mut Checkers, &mut Meter) -> AddOutcome,
+        F: Fn(&Proofs<'_>, &mut Checkers, &mut Meter) -> Result<Outcome, AllocError>,
+    >(&mut self, next: Option<&Entry>, read: &T, add: &E, judge: &F) -> Result<Verdict, AllocError>
         requires reads { T.IsAlwaysCallable read.now × ReadsTexts (FnReturnsAt T.Fn read.now) }
         requires adds { Adds (E.pre add.now) (E.post add.now) }
-        requires finds { FindsFirstWrong (F.pre first_wrong.now) (F.post first_wrong.now) }
+        requires judges { JudgesProofs (F.pre judge.now) (F.post judge.now) }
         ensures applies { IfOk result
             (λ verdict. Applies self.old.replica (option_map (λ e. e.now) next.entry) verdict self.new.replica) }
         ensures same { OnErr result (self.new.replica ≡ self.old.replica) }
@@ -213,12 +253,15 @@ impl Library {
         // Makes room for the entry, so that its decision is recorded without an allocation.
         self.entry_states.insert(key, EntryState::Undecided)?;
         let cause = match entry {
-            Entry::Text(submission) => match read_text(&self.charter, submission, read)? {
-                Ok(statements) => self
-                    .database
-                    .extend(statements, &mut self.steps, add, first_wrong)?,
-                Err(cause) => Some(cause),
-            },
+            Entry::Text(submission) => {
+                match read_text(self.limit, &self.charter, submission, read)? {
+                    Ok(text) => {
+                        let database = &mut self.database;
+                        database.extend(text, true, &mut self.steps, add, judge)?.0
+                    }
+                    Err(cause) => Some(cause),
+                }
+            }
             Entry::Charter { author, names, .. } => {
                 if !may_declare(&self.charter, *author) {
                     Some(Cause::NotChartered { statement: 0 })
@@ -271,11 +314,28 @@ impl Library {
         &self.database
     }
 
+    /// Returns the greatest work that an entry may count, or `None` if there is no limit.
+    pub fn limit(&self) -> Option<u64>
+        ensures { result ≡ self.now.replica.limit }
+    {
+        self.limit
+    }
+
     /// Returns the charter in force, if there is one.
     pub fn charter(&self) -> Option<&Names>
         ensures { option_map (λ names. names.now) result ≡ self.now.replica.charter }
     {
         self.charter.as_ref()
+    }
+}
+
+/// Returns the work that was counted, or the cause of refusal if there is one.
+fn work_or_cause(cause: Option<Cause>, work: u64) -> Result<u64, Cause>
+    ensures { result ≡ work_or_cause cause work }
+{
+    match cause {
+        None => Ok(work),
+        Some(cause) => Err(cause),
     }
 }
 

@@ -1,16 +1,17 @@
-//! The least `$p` of a text that is not proved. (The crate `unproved` finds all of a database.)
-ghost use Rattle.std.specs.Prelude.{◌≡◌, ◌≤◌, length, IfOk};
-ghost use Rattle.library.specs.Judging.{IsLeastUnproved};
-ghost use Rattle.library.specs.ProofJobs.{FindsFirstWrong};
+//! The least `$p` of a text that is not proved or is too costly. (The crate `unproved` finds all of
+//! a database that are not proved.)
+ghost use Rattle.std.specs.Prelude.{◌≡◌, ◌≤◌, false, length, IfOk};
+ghost use Rattle.library.specs.ProofJobs.{IsProofStop, JudgesProofs};
 ghost use Rattle.scope.specs.Active.{bares};
+ghost use Rattle.verify.specs.Metered.{is_past};
 
 use crate::queries::is_provable;
 use frame::Frames;
 use mm_read::Stmt;
 use std::alloc::AllocError;
 use std::marker::Model;
-use verify::{Answer, Checker};
-use verify_pool::{Checkers, Work};
+use verify::{Answer, Checker, Meter};
+use verify_pool::{Checkers, Outcome, Work};
 
 /// The `$p` to be judged, by position, as jobs for a pool of workers. Contracts see all statements
 /// and the positions of these `$p`.
@@ -33,43 +34,52 @@ impl<'a> Model for Proofs<'a> {
 
 impl<'a> Work for Proofs<'a> {
     ghost use Rattle.std.specs.Prelude.{length};
-    ghost use Rattle.library.specs.ProofJobs.{IsRightProof};
+    ghost use Rattle.library.specs.ProofJobs.{IsRightProof, work_of_proof};
 
     ghost count = { λ proofs. length proofs.positions };
 
     ghost right = { IsRightProof };
 
+    ghost work = { work_of_proof };
+
     fn count(&self) -> usize {
         self.positions.len()
     }
 
-    fn judge(&self, index: usize, checker: &mut Checker) -> Result<Answer, AllocError> {
+    fn judge(
+        &self,
+        index: usize,
+        checker: &mut Checker,
+        meter: &mut Meter,
+    ) -> Result<Answer, AllocError> {
         let at = self.positions[index];
         match &self.statements[at - 1] {
-            Stmt::Prove { proof, .. } => checker.prove(self.frames, at, proof),
+            Stmt::Prove { proof, .. } => checker.prove(self.frames, at, proof, meter),
             _ => Ok(Answer::Proved),
         }
     }
 }
 
-/// Returns the position of the first `$p` after the first `start` statements that is not proved, or
-/// `None` if each is proved. `first_wrong` returns the index of the first proof that is not right,
-/// or `None`.
+/// Judges the `$p` after the first `start` statements in order and counts their proofs on the
+/// meter, up to the first that is not proved or with which the count is past the limit. The outcome
+/// has the position of that `$p` in place of an index. `judge` judges proofs in order.
 ///
 /// Errors: an allocation fails. Cost: that of the proofs, and one pass over these statements.
-pub(crate) fn least_unproved<
-    F: Fn(&Proofs<'_>, &mut Checkers) -> Result<Option<usize>, AllocError>,
+pub(crate) fn judge_proofs<
+    F: Fn(&Proofs<'_>, &mut Checkers, &mut Meter) -> Result<Outcome, AllocError>,
 >(
-    first_wrong: &F,
+    judge: &F,
     frames: &Frames,
     statements: &[Stmt],
     start: usize,
     checkers: &mut Checkers,
-) -> Result<Option<usize>, AllocError>
-    requires finds { FindsFirstWrong (F.pre first_wrong.now) (F.post first_wrong.now) }
+    meter: &mut Meter,
+) -> Result<Outcome, AllocError>
+    requires judges { JudgesProofs (F.pre judge.now) (F.post judge.now) }
     requires same { frames.now.statements ≡ bares statements.now }
-    requires within { start ≤ length statements.now }
-    ensures { IfOk result (IsLeastUnproved statements.now start) }
+    requires begins { start ≤ length statements.now }
+    requires within { is_past meter.old ≡ false }
+    ensures { IfOk result (IsProofStop statements.now start meter.old meter.new) }
 {
     let mut positions = Vec::new(checkers.alloc());
     for index in start..statements.len() {
@@ -82,8 +92,9 @@ pub(crate) fn least_unproved<
         statements,
         positions,
     };
-    match first_wrong(&proofs, checkers)? {
-        Some(index) => Ok(Some(proofs.positions[index])),
-        None => Ok(None),
+    match judge(&proofs, checkers, meter)? {
+        Outcome::AllRight => Ok(Outcome::AllRight),
+        Outcome::Wrong(index) => Ok(Outcome::Wrong(proofs.positions[index])),
+        Outcome::TooCostly(index) => Ok(Outcome::TooCostly(proofs.positions[index])),
     }
 }

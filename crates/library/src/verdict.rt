@@ -11,6 +11,10 @@ use scope::Rule;
 pub enum Cause {
     /// C1: the text has too many bytes.
     TooLong,
+    /// C8: the library has a limit on the work of an entry, and the work of the text, or, if the
+    /// text is not added, of what is judged until that is known, is past it. The number is that of
+    /// the first statement with which the work is past the limit; 0 if its bytes alone are.
+    TooCostly { statement: usize },
     /// C2: a byte is not allowed in a text; or a `$(` stands inside a comment or is never closed,
     /// or a `$)` stands outside one.
     Text,
@@ -22,6 +26,9 @@ pub enum Cause {
     /// C4: the first statement that breaks a rule, and its least rule. A block that is open at the
     /// end breaks G10 at the number after the last statement.
     Rule { statement: usize, rule: Rule },
+    /// C9: the library has a limit, and this is the first `$e` or `$d` of the text that is active
+    /// after the text, outside all blocks.
+    LeavesHypotheses { statement: usize },
     /// C5: the first `$p` whose proof is not right, if no token of the proof has the byte `?`.
     Proof { statement: usize },
     /// C6: the first `$p` whose proof is not right, if a token of the proof has it.

@@ -6,7 +6,7 @@
 -- answer, the count of packets posted so far or a fault, and leaves the switch `new`.
 -- `carried_size` is the size of an entry in bytes.
 use Rattle.std.specs.Prelude.{◌≡◌, ◌⊎◌, ℕ, List, [], ◌∷◌, Option, Result, Ok, Err}
-use Rattle.nodes.specs.Words.{Listed, Verdict, status, listed, Carried, Ahead, Event, Deliver, Restart, StepFault, Apart, Stopped, carried_size, SwitchView, Plays, Belongs, IsAhead, Cell, IsCell}
+use Rattle.nodes.specs.Words.{Listed, Verdict, status, listed, Carried, Ahead, Event, Deliver, Restart, StepFault, Apart, Stopped, carried_size, SwitchView, Plays, Belongs, IsAhead, Cell, IsCell, work_limit_of}
 
 -- the assertions of the library of some cell of node k
 pub record IsListed (k : ℕ) (list : List Listed) : Type 0 where
@@ -24,7 +24,7 @@ pub record IsStatus (k author serial : ℕ) (verdict : Option Verdict) : Type 0 
   pub decides : verdict ≡ status cell.node_library.library.decided author serial
 
 -- which library has more statements: that of a cell of node j or that of a cell of node k, both of
--- one switch; that each library is that of its cell's entries (`IsCell`) is not said
+-- one switch and with one limit on work; that each library is that of its cell's entries (`IsCell`) is not said
 pub record IsCompared (j k : ℕ) (ahead : Ahead) : Type 0 where
   pub switch : SwitchView Carried
   pub one : Cell
@@ -33,6 +33,7 @@ pub record IsCompared (j k : ℕ) (ahead : Ahead) : Type 0 where
   pub other_at : other.node ≡ k
   pub one_belongs : Belongs one switch
   pub other_belongs : Belongs other switch
+  pub one_limit : work_limit_of one ≡ work_limit_of other
   pub compares : IsAhead ahead one.node_library.library.statements other.node_library.library.statements
 
 -- The rest is about the events that calls at a desk play on the switch.

@@ -1,6 +1,6 @@
 -- Most of the definitions of the layers below that this crate's definitions use, re-exported.
 pub use Rattle.cluster.specs.Belongs.{Belongs, IsAhead}
-pub use Rattle.cluster.specs.Cell.{Cell, IsCell}
+pub use Rattle.cluster.specs.Cell.{Cell, IsCell, work_limit_of}
 pub use Rattle.cluster.specs.declared.compare.Ahead.{Ahead}
 pub use Rattle.library.specs.LibraryOf.{status}
 pub use Rattle.library.specs.Listed.{listed}

@@ -145,8 +145,8 @@ impl<G: Gate, K: Keep<Carried>> Desk<G, K> {
     /// and `k` are one node.
     ///
     /// Errors: `NoNode`; else, if the nodes differ, `Apart` if one of the two cells does not belong
-    /// to the switch, or is not that of its node. Cost: the size of the entries that both nodes
-    /// took over, each compared with one of the log.
+    /// to the switch, or is not that of its node, or if they have two limits on work. Cost: the size
+    /// of the entries that both nodes took over, each compared with one of the log.
     pub fn compare<R: Wait>(&self, rt: &R, j: u8, k: u8) -> Result<Ahead, StepFault>
         ensures compared { IfOk result (λ ahead. (j ≡ k) ⊎ IsCompared j k ahead) }
         ensures no_node { (self.now ≤ j) ⊎ (self.now ≤ k) → result ≡ Err NoNode }

@@ -54,6 +54,8 @@ pub struct ClusterSetup {
     pub weights: Weights,
     /// The number of events that the nodes take.
     pub event_limit: u64,
+    /// The greatest work that an entry may count in the nodes' libraries, if there is a limit.
+    pub work_limit: Option<u64>,
     /// How many threads check the proofs of each entry that a node applies.
     pub workers: PoolSize,
 }
@@ -111,7 +113,13 @@ fn share<G: Gate + Drop, K: Keep<Carried>>(
     ensures cells { IfOk result (λ parts. vec_len (arc_value parts.0).cells ≡ length setup.now.weights) }
     ensures only_memory { IsOkUnless result Memory }
 {
-    let (switch, cells) = cells(alloc, setup.weights, setup.event_limit, keeps)?;
+    let (switch, cells) = cells(
+        alloc,
+        setup.weights,
+        setup.event_limit,
+        setup.work_limit,
+        keeps,
+    )?;
     let cells = locks(alloc, cells)?;
     let (senders, receivers) = channels(alloc, setup.weights.count())?;
     let shared_nodes = SharedNodes {

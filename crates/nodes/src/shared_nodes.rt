@@ -127,7 +127,7 @@ impl<G: Gate, K: Keep<Carried>> SharedNodes<G, K> {
     /// below `high`: else the call may wait forever.
     ///
     /// Errors: `NoNode`, or `Apart` if one of the two cells is not that of its node or does not
-    /// belong to the switch.
+    /// belong to the switch, or if they have two limits on work.
     pub fn compare<R: Wait>(&self, rt: &R, low: u8, high: u8) -> Result<Ahead, StepFault>
         ensures compared { IfOk result (IsCompared low high) }
         ensures only_apart { low < vec_len self.now.cells → high < vec_len self.now.cells → IsOkUnless result Apart }
@@ -137,6 +137,7 @@ impl<G: Gate, K: Keep<Carried>> SharedNodes<G, K> {
         let shared_switch = self.switch.lock(rt);
         if is_cell_of(&one.cell, low, &shared_switch.switch)
             && is_cell_of(&other.cell, high, &shared_switch.switch)
+            && one.cell.work_limit() == other.cell.work_limit()
         {
             Ok(compare_on(&one.cell, &other.cell, &shared_switch.switch))
         } else {

@@ -10,7 +10,7 @@ use Rattle.library.specs.declared.listed.Listed.{Listed}
 use Rattle.library.specs.declared.verdict.Verdict.{Verdict}
 use Rattle.library.specs.declared.verdict.Verdict.TheVariants.{Added, Nothing, Repeat, Refused}
 use Rattle.library.specs.declared.verdict.Cause.{Cause}
-use Rattle.library.specs.declared.verdict.Cause.TheVariants.{TooLong, Text, Shape, Rule, Proof, Unfinished, NotChartered}
+use Rattle.library.specs.declared.verdict.Cause.TheVariants.{TooLong, Text, Shape, Rule, Proof, Unfinished, NotChartered, TooCostly, LeavesHypotheses}
 use Rattle.library.specs.LibraryOf.{author_of, serial_of}
 use Rattle.synod.specs.declared.ballot.Ballot.{Ballot}
 use Rattle.synod.specs.declared.packet.SlotReport.{SlotReport}
@@ -79,6 +79,8 @@ cause_text (NotChartered statement) = codes "C7 " ++ decimal statement
 cause_text (Rule statement rule) = codes "C4 " ++ decimal statement ++ codes " " ++ rule_text rule
 cause_text (Proof statement) = codes "C5 " ++ decimal statement
 cause_text (Unfinished statement) = codes "C6 " ++ decimal statement
+cause_text (TooCostly statement) = codes "C8 " ++ decimal statement
+cause_text (LeavesHypotheses statement) = codes "C9 " ++ decimal statement
 
 abbrev pub verdict_text : Verdict → List ℕ
 verdict_text Added = codes "added"

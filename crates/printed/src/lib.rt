@@ -7,7 +7,7 @@
 //! a shared reference `a` refers to, and `OnOk result P` says P if the result is `Ok`.
 //!
 //! Crates above use the clause of each call: the appended text is exactly that of a definition in
-//! `specs`. `C1` to `C7` are the causes of a refusal (`library::Cause`), `G1` to `G10` the rules of
+//! `specs`. `C1` to `C9` are the causes of a refusal (`library::Cause`), `G1` to `G10` the rules of
 //! a database (`scope::Rule`).
 //!
 //! Reading order: `verdict_text`, `packets`, `answers` (logs, lists and exports), `counted`,

@@ -38,6 +38,8 @@ fn push_cause(text: &mut Vec<u8>, cause: Cause) -> Result<(), AllocError>
         }
         Cause::Proof { statement } => push_code_and_statement(text, b"C5 ", statement),
         Cause::Unfinished { statement } => push_code_and_statement(text, b"C6 ", statement),
+        Cause::TooCostly { statement } => push_code_and_statement(text, b"C8 ", statement),
+        Cause::LeavesHypotheses { statement } => push_code_and_statement(text, b"C9 ", statement),
     }
 }
 

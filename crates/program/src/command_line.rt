@@ -6,6 +6,7 @@ use crate::play::play;
 use crate::play_picture::print_picture;
 use crate::serve::serve;
 use crate::streams::print;
+use crate::works::print_work;
 use commands::{CommandLineFault, Request, VERSION, parse_command_line};
 use sites::Folder;
 use std::alloc::AllocError;
@@ -58,16 +59,12 @@ fn answer<
         Request::Version => print_version(output),
         Request::Outline { name } => print_outline(rt.alloc(), name, input, output, stderr),
         Request::Ask(question) => answer_question(rt, &question, input, output, stderr),
+        Request::Work(request) => print_work(rt, request, input, output, stderr),
         Request::Pages(request) => write_pages(rt, request, input, output, stderr, folder),
-        Request::Play {
-            weights,
-            event_limit,
-        } => play(rt.alloc(), weights, event_limit, input, output),
-        Request::Picture {
-            weights,
-            event_limit,
-            steps,
-        } => print_picture(rt.alloc(), weights, event_limit, steps, input, output),
+        Request::Play(options) => play(rt.alloc(), options, input, output),
+        Request::Picture { options, steps } => {
+            print_picture(rt.alloc(), options, steps, input, output)
+        }
         Request::Serve(options) => serve(rt, options, input, output),
     }
 }

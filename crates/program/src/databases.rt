@@ -54,7 +54,7 @@ pub fn answer_question<R: AllocGlobal + Threads + Sync, I: Read, O: Write, F: Wr
     stderr: &mut F,
 ) -> Result<u8, Fault> {
     let text = Bytes::from_vec(read_text(rt.alloc(), input)?)?;
-    let mut library = Library::new(rt.alloc());
+    let mut library = Library::new(rt.alloc(), None);
     let answered = answer_with_library(rt, request, &text, &mut library, output, stderr);
     forget(library);
     answered

@@ -30,7 +30,7 @@ pub fn write_pages<R: AllocGlobal + Threads + Sync, I: Read, O: Write, F: Write,
     folder: &mut S,
 ) -> Result<u8, Fault> {
     let text = Bytes::from_vec(read_text(rt.alloc(), input)?)?;
-    let mut library = Library::new(rt.alloc());
+    let mut library = Library::new(rt.alloc(), None);
     let streams = Streams { output, stderr };
     let answered = apply_and_write(rt, request, &text, &mut library, streams, folder);
     forget(library);

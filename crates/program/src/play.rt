@@ -6,7 +6,7 @@ use crate::fault::Fault;
 use crate::node_answers::{ahead_line, compare_libraries, label_answer};
 use crate::scripts::{AnswerLines, answer_lines, read_script};
 use crate::why::{decision_of, push_why};
-use commands::{CommonLine, NodeEntryId, PlayLine};
+use commands::{CommonLine, NodeEntryId, PlayLine, PlayOptions};
 use event_lines::push_events;
 use library::Entry;
 use net::Event;
@@ -16,20 +16,22 @@ use printed::{
 use std::alloc::{AllocError, Global};
 use std::io::{Read, Write};
 use std::vec::IntoIter;
-use synod::Weights;
 use world::World;
 
-/// Reads a script, prints the answers to its lines, and returns the exit status. The nodes take at
-/// most `event_limit` events.
+/// Reads a script, prints the answers to its lines, and returns the exit status.
 pub fn play<I: Read, O: Write>(
     alloc: Global,
-    weights: Weights,
-    event_limit: u64,
+    options: PlayOptions,
     input: &mut I,
     output: &mut O,
 ) -> Result<u8, Fault> {
     let mut lines = read_script(alloc, input)?.into_iter();
-    let mut world = World::new(alloc, weights, event_limit)?;
+    let mut world = World::new(
+        alloc,
+        options.weights,
+        options.event_limit,
+        options.work_limit,
+    )?;
     answer_lines::<PlayLine, World, IntoIter<PlayLine>, O>(alloc, &mut world, &mut lines, output)
 }
 

@@ -2,7 +2,7 @@
 use crate::fault::Fault;
 use crate::scripts::read_script;
 use crate::streams::print;
-use commands::{CommonLine, PicturedSteps, PlayLine};
+use commands::{CommonLine, PicturedSteps, PlayLine, PlayOptions};
 use net::{Event, StepFault};
 use run_pictures::{Run, StepRange, draw};
 use std::alloc::{AllocError, Global};
@@ -10,21 +10,31 @@ use std::io::{Read, Write};
 use synod::Weights;
 
 /// Reads a script, takes its steps, prints the picture of some of them, and returns the exit
-/// status. The nodes take at most `event_limit` events. A line that is refused leaves no mark, and
-/// questions are not answered.
+/// status. A line that is refused leaves no mark, and questions are not answered.
 ///
 /// Errors: `Input`; `BadLine`; `LongRun`; `Memory`, before anything is printed; `Output`.
 pub fn print_picture<I: Read, O: Write>(
     alloc: Global,
-    weights: Weights,
-    event_limit: u64,
+    options: PlayOptions,
     steps: PicturedSteps,
     input: &mut I,
     output: &mut O,
 ) -> Result<u8, Fault> {
     let lines = read_script::<PlayLine, I>(alloc, input)?;
-    let mut run = Run::new(alloc, weights, event_limit)?;
-    print_run(alloc, weights, &mut run, lines, range_of(steps), output)
+    let mut run = Run::new(
+        alloc,
+        options.weights,
+        options.event_limit,
+        options.work_limit,
+    )?;
+    print_run(
+        alloc,
+        options.weights,
+        &mut run,
+        lines,
+        range_of(steps),
+        output,
+    )
 }
 
 /// Takes the steps of a script, and prints the picture of a range of them.

@@ -20,7 +20,7 @@ pub fn print_refused_text<O: Write, F: Write>(
     stderr: &mut F,
 ) -> Result<u8, Fault> {
     print(output, refusal_line(alloc, cause)?.as_slice())?;
-    if let Some(fault) = fault_of(cause) {
+    if let Some(fault) = fault_of(cause, None) {
         print_reason(alloc, text, fault, stderr);
     }
     Ok(1)
@@ -34,9 +34,10 @@ fn refusal_line(alloc: Global, cause: Cause) -> Result<Vec<u8>, AllocError> {
     Ok(line)
 }
 
-/// Returns the fault to explain for a cause, or `None` for `NotChartered`, which is no fault of a
-/// text.
-pub fn fault_of(cause: Cause) -> Option<DatabaseFault> {
+/// Returns the fault to explain for a cause in a library with this limit on work; `None` for
+/// `NotChartered`, which is no fault of a text, and for `TooCostly` without a limit, for which no
+/// library refuses a text.
+pub fn fault_of(cause: Cause, limit: Option<u64>) -> Option<DatabaseFault> {
     match cause {
         Cause::TooLong => Some(DatabaseFault::TooLong),
         Cause::Text => Some(DatabaseFault::Text),
@@ -44,6 +45,13 @@ pub fn fault_of(cause: Cause) -> Option<DatabaseFault> {
         Cause::Rule { statement, rule } => Some(DatabaseFault::Rule { statement, rule }),
         Cause::Proof { statement } => Some(DatabaseFault::Proof { statement }),
         Cause::Unfinished { statement } => Some(DatabaseFault::Unfinished { statement }),
+        Cause::TooCostly { statement } => Some(DatabaseFault::TooCostly {
+            statement,
+            limit: limit?,
+        }),
+        Cause::LeavesHypotheses { statement } => Some(DatabaseFault::LeavesHypotheses {
+            statement,
+        }),
         Cause::NotChartered { .. } => None,
     }
 }

@@ -56,14 +56,7 @@ fn serve_lines<
     S: LineSource<ServedLine>,
     O: Write,
 >(rt: &R, options: &ServeOptions, lines: &mut S, output: &mut O) -> Result<u8, Fault> {
-    let mut nodes = start_nodes(
-        rt,
-        rt.alloc(),
-        options.weights,
-        options.event_limit,
-        options.workers,
-        options.weather_seed,
-    )?;
+    let mut nodes = start_nodes(rt, rt.alloc(), options)?;
     let answered = answer_at_desk(rt, &nodes, lines, output);
     let stopped = stop_nodes(rt, &mut nodes);
     let status = answered?;

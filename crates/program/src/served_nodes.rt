@@ -6,13 +6,13 @@ ghost use Rattle.net.specs.declared.fault.StepFault.TheVariants.{Memory};
 
 use crate::served_weather::weathers;
 use cluster::MemoryKeep;
-use commands::WorkerCount;
+use commands::ServeOptions;
 use net::StepFault;
 use nodes::{Cluster, ClusterSetup, Desk, start};
 use std::alloc::{AllocError, Global};
 use std::sync::{Arc, Wait};
 use std::thread::Threads;
-use synod::{Keep, Weights};
+use synod::Keep;
 use verify_pool::{OpenGate, PoolSize};
 use world::Carried;
 
@@ -27,33 +27,30 @@ pub type Nodes = Cluster<OpenGate, MemoryKeep<Carried>>;
 /// says that there is no such node.
 pub type NodesDesk = Desk<OpenGate, MemoryKeep<Carried>>;
 
-/// Starts a node for each weight. They take at most `event_limit` events. `seed` is that from which
-/// the weather of each node is drawn; without a seed the weather is clear. The gate lets each thread
-/// pass at once.
+/// Starts a node for each weight, as the options say; without a seed the weather is clear. The gate
+/// lets each thread pass at once.
 ///
 /// Errors: `Memory` if an allocation fails or a thread cannot be started; then no thread is left
 /// running.
 pub fn start_nodes<R: Threads + Wait + Copy + Send + Sync + Drop + 'static>(
     rt: &R,
     alloc: Global,
-    weights: Weights,
-    event_limit: u64,
-    workers: WorkerCount,
-    seed: Option<u64>,
+    options: &ServeOptions,
 ) -> Result<Nodes, StepFault>
-    ensures nodes { IfOk result (λ nodes. nodes ≡ length weights) }
+    ensures nodes { IfOk result (λ nodes. nodes ≡ length options.now.weights) }
     ensures only_memory { IsOkUnless result Memory }
 {
-    let count = weights.count();
+    let count = options.weights.count();
     let Ok(gate) = Arc::new(alloc, OpenGate) else {
         return Err(StepFault::Memory);
     };
-    let weathers = weathers(alloc, count, seed)?;
+    let weathers = weathers(alloc, count, options.weather_seed)?;
     let keeps = keeps(alloc, count)?;
     let setup = ClusterSetup {
-        weights,
-        event_limit,
-        workers: PoolSize::new(workers.count),
+        weights: options.weights,
+        event_limit: options.event_limit,
+        work_limit: options.work_limit,
+        workers: PoolSize::new(options.workers.count),
     };
     start(rt, alloc, &setup, gate, weathers, keeps)
 }

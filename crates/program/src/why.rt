@@ -28,6 +28,8 @@ pub enum Decision {
 #[derive(Drop)]
 pub struct RefusedEntry {
     cause: Cause,
+    /// The greatest work that an entry may count in the library, if there is a limit.
+    limit: Option<u64>,
     entry: Entry,
     /// The texts that were added before it, in order.
     added: Vec<Bytes>,
@@ -58,6 +60,7 @@ pub fn decision_of(
         if entry.author() == entry_id.author && entry.serial() == entry_id.serial {
             return Ok(Decision::Refused(RefusedEntry {
                 cause,
+                limit: library.limit(),
                 entry: entry.copy()?,
                 added,
                 export: library.export()?,
@@ -99,7 +102,7 @@ pub fn push_why(alloc: Global, text: &mut Vec<u8>, decision: &Decision) -> Resul
 
 /// Returns the lines that say why an entry is refused.
 fn reason(alloc: Global, refused: &RefusedEntry) -> Result<Vec<u8>, AllocError> {
-    match (&refused.entry, fault_of(refused.cause)) {
+    match (&refused.entry, fault_of(refused.cause, refused.limit)) {
         (Entry::Text(submission), Some(fault)) => {
             explanation(alloc, refused, submission.text.as_slice(), fault)
         }
@@ -136,7 +139,10 @@ fn explanation(
 fn names_statement(fault: DatabaseFault) -> bool {
     !matches!(
         fault,
-        DatabaseFault::TooLong | DatabaseFault::Text | DatabaseFault::Shape
+        DatabaseFault::TooLong
+            | DatabaseFault::Text
+            | DatabaseFault::Shape
+            | DatabaseFault::TooCostly { statement: 0, .. }
     )
 }
 
@@ -151,6 +157,15 @@ fn shift_statement(fault: DatabaseFault, count: usize) -> DatabaseFault {
             statement: statement.saturating_add(count),
         },
         DatabaseFault::Unfinished { statement } => DatabaseFault::Unfinished {
+            statement: statement.saturating_add(count),
+        },
+        DatabaseFault::TooCostly { statement, limit } if statement != 0 => {
+            DatabaseFault::TooCostly {
+                statement: statement.saturating_add(count),
+                limit,
+            }
+        }
+        DatabaseFault::LeavesHypotheses { statement } => DatabaseFault::LeavesHypotheses {
             statement: statement.saturating_add(count),
         },
         other => other,

@@ -20,7 +20,7 @@ label_no_question [] h = refl
 label_no_question (b ∷ label) h = no_question (b ∷ label) h
 
 -- a proof of labels alone is not unfinished
-labels_finished : (labels : List Name) → list_all is_label labels ≡ true → is_unfinished labels ≡ false
+pub labels_finished : (labels : List Name) → list_all is_label labels ≡ true → is_unfinished labels ≡ false
 labels_finished [] h = refl
 labels_finished (label ∷ labels) h =
     let parts : (is_label label ≡ true) × (list_all is_label labels ≡ true) = and_parts (is_label label) (list_all is_label labels) h in

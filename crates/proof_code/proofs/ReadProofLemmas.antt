@@ -104,7 +104,9 @@ module _ (tokens before : List Name) (letters : List ℕ) (count : ℕ) (starts 
     heading numbers first read = record {
       listed = header.listed;
       rest = header.rest;
+      starts = starts;
       whole = is.whole;
+      labels = is.labels;
       many = found.3;
       none_shared = λ labels long apart.
           written_after tokens before starts header found.1 labels (items_of (labels ++ header.listed) numbers) apart

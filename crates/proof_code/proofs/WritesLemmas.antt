@@ -29,7 +29,7 @@ header-read (token ∷ tokens) header h = elim (cases_Bool (name_eq token right_
 ]
 
 -- a header that is there is read
-read-header : (listed rest : List Name) → list_all is_label listed ≡ true → list_and_rest (listed ++ right_parenthesis ∷ rest) ≡ Some (record { listed = listed; rest = rest })
+pub read-header : (listed rest : List Name) → list_all is_label listed ≡ true → list_and_rest (listed ++ right_parenthesis ∷ rest) ≡ Some (record { listed = listed; rest = rest })
 read-header [] rest labels = refl
 read-header (label ∷ listed) rest labels =
     let is : (is_label label ≡ true) × (list_all is_label listed ≡ true) = and_parts (is_label label) (list_all is_label listed) labels in

@@ -4,9 +4,9 @@
 -- The code reads without the mandatory labels: the caller tests whether a listed label is one of
 -- them.
 use Rattle.std.specs.Prelude.{◌≡◌, ℕ, ◌+◌, ◌-◌, ◌*◌, ◌^◌, ◌==◌, ◌||◌, Bool, IsTrue, IsFalse, if◌then◌else◌, List, [], ◌∷◌, ◌++◌, length, Option, Result, OnOk}
-use Rattle.std.specs.List.{list_any}
+use Rattle.std.specs.List.{list_all, list_any}
 use Rattle.std.specs.Option.{option_map}
-use Rattle.mm_lex.specs.Alphabet.{Name, has_name}
+use Rattle.mm_lex.specs.Alphabet.{Name, has_name, is_label}
 use Rattle.proof_code.specs.declared.item.Item.{Item}
 use Rattle.proof_code.specs.declared.reader.Heading.{Heading}
 use Rattle.proof_code.specs.ItemNumbers.{items_of}
@@ -59,12 +59,14 @@ IsNextRead before limit digits byte after limit' digits' =
 abbrev pub share_label : List Name → List Name → Bool
 share_label mandatory listed = list_any (λ label. has_name label mandatory) listed
 
--- the proof lists the first `count` of the words; for any mandatory labels, `mandatory` of them, it
+-- the proof is `(` and these words, of which it lists the first `count`; for any mandatory labels, `mandatory` of them, it
 -- writes the items of these numbers if none of them is listed, and no items if one is
 pub record IsHeadingWithNumbers (tokens : List Name) (mandatory : ℕ) (words : List Name) (count : ℕ) (numbers : List ℕ) : Type 0 where
   pub listed : List Name
   pub rest : List Name
+  pub starts : tokens ≡ left_parenthesis ∷ words
   pub whole : words ≡ listed ++ right_parenthesis ∷ rest
+  pub labels : IsTrue (list_all is_label listed)
   pub many : length listed ≡ count
   pub none_shared : (labels : List Name) → length labels ≡ mandatory → IsFalse (share_label labels listed) → WritesCompressed tokens labels (items_of (labels ++ listed) numbers)
   pub shared : (labels : List Name) → IsTrue (share_label labels listed) → (items : List Item) → ¬ WritesCompressed tokens labels items

@@ -4,8 +4,8 @@ use Rattle.world.specs.WorldView.{after_event}
 use Rattle.run_pictures.proofs.StepsLemmas.{next_is, with_event_step, with_application_step}
 
 -- a new world has no steps
-pub new_recorded : (world : WorldView) (weights : List ℕ) (limit : ℕ) → world ≡ new_world weights limit → IsRecorded world [] 0
-new_recorded world weights limit is = record {
+pub new_recorded : (world : WorldView) (weights : List ℕ) (event_limit : ℕ) (work_limit : Option ℕ) → world ≡ new_world weights event_limit work_limit → IsRecorded world [] 0
+new_recorded world weights event_limit work_limit is = record {
   events = ap (λ (r : WorldView). steps_of r.history) (sym is);
   count = ap (λ (r : WorldView). length (packets_of r)) (sym is);
 }
@@ -43,7 +43,7 @@ event_recorded old new steps more posted count e step recorded taken added is co
 pub same_recorded : (old new : WorldView) (steps : List Step) (posted : ℕ) → IsRecorded old steps posted → new.history ≡ old.history → IsRecorded new steps posted
 same_recorded old new steps posted recorded taken = record {
   events = recorded.events ∙ ap steps_of (sym taken);
-  count = recorded.count ∙ ap (λ (t : History Carried). length (packets_of (record { history = t; libraries = new.libraries }))) (sym taken);
+  count = recorded.count ∙ ap (λ (t : History Carried). length (packets_of (record { history = t; work_limit = new.work_limit; libraries = new.libraries }))) (sym taken);
 }
 
 -- the history is unchanged, and the application of an entry is recorded
@@ -51,7 +51,7 @@ pub application_recorded : (old new : WorldView) (steps more : List Step) (poste
     → IsRecorded old steps posted → new.history ≡ old.history → more ≡ steps ++ step ∷ [] → is_event step ≡ false → IsRecorded new more posted
 application_recorded old new steps more posted step recorded taken added is = record {
   events = ap (λ ss. filter is_event ss) added ∙ with_application_step steps step (steps_of old.history) recorded.events is ∙ ap steps_of (sym taken);
-  count = recorded.count ∙ ap (λ (t : History Carried). length (packets_of (record { history = t; libraries = new.libraries }))) (sym taken);
+  count = recorded.count ∙ ap (λ (t : History Carried). length (packets_of (record { history = t; work_limit = new.work_limit; libraries = new.libraries }))) (sym taken);
 }
 
 -- an application does not change the history

@@ -46,15 +46,21 @@ impl Run {
     ghost use Rattle.run_pictures.specs.RunView.{RunView, packets_of};
     ghost use Rattle.run_pictures.specs.Marks.{marks_of, shown_of};
 
-    /// Makes a run of new nodes, without steps. The nodes take at most `event_limit` events.
+    /// Makes a run of new nodes, without steps. The nodes take at most `event_limit` events;
+    /// `work_limit` is the greatest work that an entry may count, if there is a limit.
     #[tactic(auto, using(crate::proofs::RunLemmas::new_recorded))]
-    pub fn new(alloc: Global, weights: Weights, event_limit: u64) -> Result<Run, StepFault>
+    pub fn new(
+        alloc: Global,
+        weights: Weights,
+        event_limit: u64,
+        work_limit: Option<u64>,
+    ) -> Result<Run, StepFault>
         ensures new { IfOk result
-            (λ run. run ≡ record { world = new_world weights event_limit; steps = [] }) }
+            (λ run. run ≡ record { world = new_world weights event_limit work_limit; steps = [] }) }
         ensures only_memory { IsOkUnless result Memory }
     {
         Ok(Run {
-            world: World::new(alloc, weights, event_limit)?,
+            world: World::new(alloc, weights, event_limit, work_limit)?,
             steps: Vec::new(alloc),
             posted: 0,
         })

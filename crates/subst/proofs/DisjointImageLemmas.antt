@@ -1,7 +1,9 @@
 -- The disjoint variable condition by the lists of the variables of images.
 use Rattle.frame.specs.ListsOfPairs.{is_numbered_pair}
-use Rattle.subst.proofs.VariableListLemmas.{below-from, below-has}
-use Rattle.subst.proofs.Words.{◌≡◌, ℕ, suc, ◌<◌, ◌==◌, ◌||◌, ◌&&◌, Bool, true, false, not, true≢false, List, [], ◌∷◌, length, get_or, refl, list_all, list_any, sym, ◌∙◌, ap, arith, inl, inr, cases_Bool, cases_eq, and_from, and_parts, or_left, or_right, or_cases, not_from_false, not-true, both_ways, true_from_ne_false, false_from_ne_true, last_part, list_all-map, list_all_at, list_any_at, Any-from_list_any, below-at, get_or_default, subst, decode, are_disjoint, Numbered, CodeImages, code_image, AreBelow, AreOver, are_two_disjoint, image_named, is_number_disjoint, IsRowOf, ListsOthers, ListsVariables, StampedSymbols, has_number, has_symbol, is_numbered_variable}
+use Rattle.frame.specs.MandatoryPairs.{has_number as is_met}
+use Rattle.subst.proofs.Members.{has_number, met-has}
+use Rattle.subst.proofs.VariableListLemmas.{below-from, below-has, others-each, variables-each}
+use Rattle.subst.proofs.Words.{◌≡◌, ℕ, suc, ◌<◌, ◌==◌, ◌||◌, ◌&&◌, Bool, true, false, not, true≢false, List, [], ◌∷◌, length, get_or, refl, list_all, list_any, sym, ◌∙◌, ap, arith, inl, inr, cases_Bool, cases_eq, and_from, and_parts, or_left, or_right, or_cases, not_from_false, not-true, both_ways, true_from_ne_false, false_from_ne_true, last_part, list_all-map, list_all_at, list_any_at, Any-from_list_any, below-at, get_or_default, subst, decode, are_disjoint, Numbered, CodeImages, code_image, AreBelow, AreOver, are_two_disjoint, image_named, is_number_disjoint, image_variables, other_variables, compared_variables, listed_beside, numbered_variables, IsRowOf, StampedSymbols, has_symbol, is_numbered_variable}
 use Rattle.std.proofs.lemmas.Bool.{ne_eqb}
 
 -- ---- members of a list
@@ -27,8 +29,8 @@ each-all p (x ∷ xs) u all has = elim (cases_eq u x) [
 ]
 
 -- the number at an index of a list is in the list
-pub has-at : (xs : List ℕ) (k : ℕ) → k < length xs → has_number xs (get_or xs k 0) ≡ true
-has-at xs k low = list_any_at (λ c. get_or xs k 0 == c) xs k 0 low (let own : (get_or xs k 0 == get_or xs k 0) ≡ true = grind arith in own)
+pub has-at : (xs : List ℕ) (k : ℕ) → k < length xs → is_met xs (get_or xs k 0) ≡ true
+has-at xs k low = list_any_at (λ c. c == get_or xs k 0) xs k 0 low (let own : (get_or xs k 0 == get_or xs k 0) ≡ true = grind arith in own)
 
 -- ---- two images
 
@@ -48,7 +50,13 @@ module _ (v : Numbered) (xs ys : List ℕ) where
 
 -- ---- one image and those of others
 
-module _ (v : Numbered) (σ : CodeImages) (x : ℕ) (numbers own others : List ℕ) (lists : ListsVariables v (code_image σ x) own) (rest : ListsOthers v σ x numbers others) where
+module _ (v : Numbered) (σ : CodeImages) (x : ℕ) (numbers : List ℕ) where
+  abbrev own : List ℕ
+  own = image_variables v σ x
+
+  abbrev others : List ℕ
+  others = other_variables v σ x numbers
+
   abbrev is_from : ℕ → ℕ → Bool
   is_from w y = not (x == y) && has_number (code_image σ y) w
 
@@ -67,16 +75,16 @@ module _ (v : Numbered) (σ : CodeImages) (x : ℕ) (numbers own others : List �
       good k low other a b p q true false _ none = or_left _ _ (or_right _ _ (ap not none))
       good k low other a b p q true true one two =
           or_right _ _ (each-all (is_numbered_pair v a) others b
-          (each-all (λ u. list_all (is_numbered_pair v u) others) own a told (lists.each a ∙ and_from _ _ p one))
-          (rest.each b ∙ and_from _ _ (list_any_at (is_from b) numbers k 0 low (and_from _ _ (not_from_false _ other) q)) two))
+          (each-all (λ u. list_all (is_numbered_pair v u) others) own a told (variables-each v (code_image σ x) a ∙ and_from _ _ p one))
+          (others-each v σ x numbers b ∙ and_from _ _ (list_any_at (is_from b) numbers k 0 low (and_from _ _ (not_from_false _ other) q)) two))
 
   pairs-all : is_number_disjoint v.statements (image_named v.names σ) numbers x ≡ true → list_all (λ u. list_all (is_numbered_pair v u) others) own ≡ true
   pairs-all all = all-each (λ u. list_all (is_numbered_pair v u) others) own (λ a p. all-each (is_numbered_pair v a) others (λ b q. pair a b p q))
     where
       pair : (a b : ℕ) → has_number own a ≡ true → has_number others b ≡ true → is_numbered_pair v a b ≡ true
       pair a b p q =
-          let one = and_parts _ _ (sym (lists.each a) ∙ p) in
-          let two = and_parts _ _ (sym (rest.each b) ∙ q) in
+          let one = and_parts _ _ (sym (variables-each v (code_image σ x) a) ∙ p) in
+          let two = and_parts _ _ (sym (others-each v σ x numbers b) ∙ q) in
           let h = Any-from_list_any (is_from b) numbers two.0 in
           let from = and_parts _ _ h.4 in
           let at = get_or_default numbers h.0 0 h.1 h.2 ∙ h.3 in
@@ -94,24 +102,40 @@ module _ (v : Numbered) (σ : CodeImages) (x : ℕ) (numbers own others : List �
     | inr told ↦ told ∙ sym (false_from_ne_true _ (λ all. true≢false (sym (pairs-all all) ∙ told)))
   ]
 
--- an image without variables is disjoint from each image
-pub pairs-none : (v : Numbered) (σ : CodeImages) (x : ℕ) (numbers : List ℕ) → ListsVariables v (code_image σ x) [] → true ≡ is_number_disjoint v.statements (image_named v.names σ) numbers x
-pairs-none v σ x numbers none =
-    sym (all-at (are_two_disjoint v.statements (image_named v.names σ) x) numbers
-    (λ k low. or_right (x == get_or numbers k 0) _ (disjoint-from_good v (code_image σ x) (code_image σ (get_or numbers k 0)) (λ a b p q. good a b p (is_numbered_variable v a) refl))))
-  where
-    good : (a b : ℕ) → has_number (code_image σ x) a ≡ true → (t : Bool) → is_numbered_variable v a ≡ t → is_good v a b ≡ true
-    good a b p true is = absurd (true≢false (sym (and_from (has_number (code_image σ x) a) (is_numbered_variable v a) p is) ∙ sym (none.each a)))
-    good a b p false is = or_left _ _ (or_left _ _ (ap not is))
-
 -- the variables of the images of the others are below the bound of the numbers
-pub others-below : (v : Numbered) (σ : CodeImages) (x : ℕ) (numbers list : List ℕ) → ListsOthers v σ x numbers list → AreOver v.names σ → AreBelow (length v.names) numbers → AreBelow (length v.names) list
-others-below v σ x numbers list rest over below = below-from (length v.names) list (λ w h.
-    let two = and_parts _ _ (sym (rest.each w) ∙ h) in
+pub others-below : (v : Numbered) (σ : CodeImages) (x : ℕ) (numbers : List ℕ) → AreOver v.names σ → AreBelow (length v.names) numbers → AreBelow (length v.names) (other_variables v σ x numbers)
+others-below v σ x numbers over below = below-from (length v.names) (other_variables v σ x numbers) (λ w h.
+    let two = and_parts _ _ (sym (others-each v σ x numbers w) ∙ h) in
     let any = Any-from_list_any (λ y. not (x == y) && has_number (code_image σ y) w) numbers two.0 in
     let from = and_parts _ _ any.4 in
     let at = get_or_default numbers any.0 0 any.1 any.2 ∙ any.3 in
     below-has (length v.names) (code_image σ any.1) w (over any.1 (subst (λ y. y < length v.names) at (below-at (length v.names) numbers any.0 0 below any.2))) from.1)
+
+-- ---- members of the lists that are compared
+
+-- a variable of an image stands in it
+pub own-parts : (v : Numbered) (symbols : List ℕ) (u : ℕ) → is_met (numbered_variables v symbols) u ≡ true → (is_met symbols u ≡ true) × (is_numbered_variable v u ≡ true)
+own-parts v symbols u h =
+    let both = and_parts _ _ (sym (variables-each v symbols u) ∙ (sym (met-has (numbered_variables v symbols) u) ∙ h)) in
+    (met-has symbols u ∙ both.0, both.1)
+
+any-met : (x w : ℕ) (σ : CodeImages) (numbers : List ℕ) → list_any (λ y. not (x == y) && is_met (code_image σ y) w) numbers ≡ list_any (λ y. not (x == y) && has_number (code_image σ y) w) numbers
+any-met x w σ [] = refl
+any-met x w σ (y ∷ numbers) =
+    ap (λ b. (not (x == y) && b) || list_any (λ y. not (x == y) && is_met (code_image σ y) w) numbers) (met-has (code_image σ y) w)
+    ∙ ap (λ b. (not (x == y) && has_number (code_image σ y) w) || b) (any-met x w σ numbers)
+
+beside-met : (own more : List ℕ) (w : ℕ) → is_met (listed_beside own more) w ≡ true → is_met more w ≡ true
+beside-met [] more w h = absurd (true≢false (sym h))
+beside-met (u ∷ mine) more w h = h
+
+-- a variable with which those of the image of x are compared stands in the image of another number
+pub other-parts : (v : Numbered) (σ : CodeImages) (x : ℕ) (numbers : List ℕ) (w : ℕ) → is_met (compared_variables v σ x numbers) w ≡ true
+    → (list_any (λ y. not (x == y) && is_met (code_image σ y) w) numbers ≡ true) × (is_numbered_variable v w ≡ true)
+other-parts v σ x numbers w h =
+    let more = beside-met (image_variables v σ x) (other_variables v σ x numbers) w h in
+    let both = and_parts _ _ (sym (others-each v σ x numbers w) ∙ (sym (met-has (other_variables v σ x numbers) w) ∙ more)) in
+    (any-met x w σ numbers ∙ both.0, both.1)
 
 -- ---- the row of a variable
 

@@ -1,6 +1,6 @@
 -- Lists of numbers as lists of names.
 use Rattle.std.proofs.lemmas.Bool.{ne_eqb}
-use Rattle.subst.proofs.Words.{◌≡◌, ℕ, zero, suc, ◌<◌, Bool, true, false, ◌||◌, ◌&&◌, ◌==◌, List, [], ◌∷◌, length, map, drop, slice_get, Some, refl, list_all, position_or_len, sym, ◌∙◌, ap, subst, arith, inl, inr, true≢false, lt-ltb, cases_Bool, list_all-map, Name, name_eq, Expr, Database, name_at, decode, AreDistinct, name_same, same_name, CodeImages, image, images_of_names, are_disjoint, AreBelow, AllBelow, image_named, are_two_disjoint, is_number_disjoint, is_list_disjoint}
+use Rattle.subst.proofs.Words.{◌≡◌, ℕ, zero, suc, ◌<◌, Bool, true, ◌||◌, ◌&&◌, ◌==◌, List, [], ◌∷◌, length, drop, slice_get, Some, refl, list_all, position_or_len, sym, ◌∙◌, ap, subst, arith, inl, inr, true≢false, lt-ltb, cases_Bool, list_all-map, Name, name_eq, Database, name_at, decode, AreDistinct, name_same, same_name, CodeImages, image, images_of_names, are_disjoint, AreBelow, AllBelow, image_named, are_two_disjoint, is_number_disjoint, is_list_disjoint}
 use Rattle.subst.proofs.SubstitutionLemmas.{place-of, image-decode}
 
 -- ---- lists

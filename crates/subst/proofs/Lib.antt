@@ -1,4 +1,5 @@
 pub mod Words
+mod Members
 pub mod SymbolRangeLemmas
 pub mod ImageRangesLemmas
 mod ImageTableLemmas
@@ -13,3 +14,4 @@ pub mod DisjointLemmas
 mod Rows
 pub mod GroupLemmas
 pub mod PairwiseLemmas
+pub mod PastLemmas

@@ -1,5 +1,5 @@
 -- The images of the numbers of a group, each tested against the earlier ones.
-use Rattle.subst.proofs.Words.{◌≡◌, ℕ, ◌+◌, ◌<◌, ◌≤◌, Bool, true, false, not, ◌||◌, ◌&&◌, ◌==◌, List, [], ◌∷◌, length, take, get_or, refl, list_any, sym, ◌∙◌, ap, arith, inl, inr, true≢false, cases_eq, or_cases, or_left, or_right, false_from_ne_true, get_or-take, length-take, Name, name_eq, has_name, Expr, Database, name_eq-comm, is_pair, active_disjoint_lists, image, are_disjoint, are_two_disjoint, is_number_disjoint, are_numbers_disjoint, pair_at, disjoint-from, and_comm}
+use Rattle.subst.proofs.Words.{◌≡◌, ℕ, ◌+◌, ◌<◌, ◌≤◌, Bool, true, false, not, ◌||◌, ◌&&◌, ◌==◌, List, [], ◌∷◌, length, take, get_or, refl, list_any, sym, ◌∙◌, ap, arith, inl, inr, true≢false, cases_eq, or_cases, or_left, or_right, false_from_ne_true, get_or-take, length-take, Name, name_eq, has_name, Expr, Database, name_eq-comm, is_pair, active_disjoint_lists, are_disjoint, are_two_disjoint, is_number_disjoint, are_numbers_disjoint, pair_at, disjoint-from, and_comm}
 use Rattle.subst.proofs.DisjointImageLemmas.{at-all, all-at}
 
 any-same : {A : Type 0} (p q : A → Bool) (xs : List A) → ((x : A) → p x ≡ q x) → list_any p xs ≡ list_any q xs

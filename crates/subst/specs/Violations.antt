@@ -4,8 +4,9 @@
 -- The code compares the image of each number of a group with those of the numbers before it.
 use Rattle.std.specs.Prelude.{◌≡◌, ℕ, ◌<◌, ◌==◌, true, false, List, length, take, get_or, slice_get, Some}
 use Rattle.frame.specs.ListsOfPairs.{is_numbered_pair}
+use Rattle.frame.specs.MandatoryPairs.{has_number}
+use Rattle.frame.specs.NumberedWork.{is_numbered_variable}
 use Rattle.subst.specs.Words.{Numbered, CodeImages, code_image}
-use Rattle.subst.specs.Stored.VariableLists.{has_number, is_numbered_variable}
 use Rattle.subst.specs.declared.violation.DisjointViolation.{DisjointViolation}
 
 -- y is one of the numbers other than x, and w a variable of its image; no active `$d` has u and w,

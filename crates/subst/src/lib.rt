@@ -8,8 +8,8 @@
 //! whether images meet the disjoint variable condition; `first_violation` finds two that do not.
 //!
 //! Reading order: `symbol_range`, `image_ranges`, `copies`, `writing`, `matching`, `buffer`,
-//! `images`, `disjoint_condition`; `symbol_set`, `variable_lists`, `disjoint_images`, `violation`;
-//! `laws`.
+//! `images`, `disjoint_condition`; `symbol_set`, `variable_lists`, `stop`, `disjoint_images`,
+//! `violation`; `laws`.
 #![tactic(auto)]
 
 mod buffer;
@@ -20,6 +20,7 @@ mod image_ranges;
 mod images;
 mod laws;
 mod matching;
+mod stop;
 mod symbol_range;
 mod symbol_set;
 mod variable_lists;
@@ -32,5 +33,6 @@ pub use disjoint_images::DisjointImages;
 pub use image_ranges::ImageRanges;
 pub use images::{Subst, apply, has_room};
 pub use laws::{disjoint_condition_law, substitution_over_names};
+pub use stop::Stop;
 pub use symbol_range::{SymbolRange, range_between, symbols_at};
 pub use violation::{DisjointViolation, first_violation};

@@ -4,11 +4,12 @@ ghost use Rattle.std.specs.Prelude.{MatchOption, OnOk};
 ghost use Rattle.std.specs.List.{list_all, list_any};
 ghost use Rattle.frame.specs.Below.{AllBelow, AreBelow};
 ghost use Rattle.frame.specs.ListsOfPairs.{is_numbered_pair};
+ghost use Rattle.frame.specs.MandatoryPairs.{has_number};
 ghost use Rattle.frame.specs.Substitution.{code_image};
 ghost use Rattle.subst.specs.DisjointImages.{are_numbers_disjoint, image_named, is_number_disjoint};
 ghost use Rattle.subst.specs.Images.{AreOver};
+ghost use Rattle.subst.specs.ReadImages.{HasReadOnly};
 ghost use Rattle.subst.specs.Stored.SymbolSets.{has_symbol};
-ghost use Rattle.subst.specs.Stored.VariableLists.{AreLists, has_number};
 ghost use Rattle.subst.specs.SymbolRanges.{AreInside, images_at};
 ghost use Rattle.subst.specs.Violations.{IsUnpairedWith, IsViolation, IsViolationOf};
 
@@ -35,9 +36,9 @@ pub struct DisjointViolation {
 /// pairs, or `None` if the images of each two variables of each group are disjoint. The images are
 /// ranges of the buffer.
 ///
-/// Errors: an allocation fails, or the images have more than 4,294,967,295 variables.
-/// Cost: at most that of `DisjointImages::is_disjoint` for each variable of a group and those before
-/// it, and the symbols of the images again.
+/// Errors: those of `DisjointImages::is_disjoint`.
+/// Cost: at most that of `DisjointImages::is_disjoint` for each variable of a group and those
+/// before it, and the symbols of the images again.
 /// Source: Metamath, 4.2.6.
 pub fn first_violation(
     alloc: Global,
@@ -54,7 +55,7 @@ pub fn first_violation(
         (IsViolation pairs.now (images_at symbols.now images.now) groups.now)) }
 {
     let mut disjoint_images = DisjointImages::new(alloc);
-    disjoint_images.images.clear();
+    disjoint_images.begin_citation(None);
     let symbols = symbols.as_slice();
     for k in 0..groups.len() {
         if let Some(violation) = disjoint_images.violation_in(
@@ -78,11 +79,11 @@ impl DisjointImages {
         images: &ImageRanges,
         group: &[u32],
     ) -> Result<Option<DisjointViolation>, AllocError>
-        requires lists { AreLists pairs.now (images_at symbols.now images.now) self.old.images }
+        requires read { HasReadOnly pairs.now (images_at symbols.now images.now) self.old }
         requires named { AreOver pairs.now.names (images_at symbols.now images.now) }
         requires inside { AreInside (length symbols.now) images.now }
         requires below { AreBelow (length pairs.now.names) group.now }
-        ensures lists { OnOk result (AreLists pairs.now (images_at symbols.now images.now) self.new.images) }
+        ensures read { OnOk result (HasReadOnly pairs.now (images_at symbols.now images.now) self.new) }
         ensures found { IfOk result (λ found. MatchOption found
             (are_numbers_disjoint pairs.now.statements (image_named pairs.now.names (images_at symbols.now images.now)) group.now ≡ true)
             (IsViolationOf pairs.now (images_at symbols.now images.now) group.now)) }
@@ -103,7 +104,7 @@ impl DisjointImages {
 
     /// Returns x and one of the others in a list whose images are not disjoint, if there is one.
     ///
-    /// Errors: an allocation fails, or the images have more than 4,294,967,295 variables.
+    /// Errors: those of `is_disjoint`.
     /// Cost: that of `is_disjoint`, and if there is one the symbols of the images of the others.
     fn violation_with(
         &mut self,
@@ -113,23 +114,23 @@ impl DisjointImages {
         x: u32,
         others: &[u32],
     ) -> Result<Option<DisjointViolation>, AllocError>
-        requires lists { AreLists pairs.now (images_at symbols.now images.now) self.old.images }
+        requires read { HasReadOnly pairs.now (images_at symbols.now images.now) self.old }
         requires named { AreOver pairs.now.names (images_at symbols.now images.now) }
         requires inside { AreInside (length symbols.now) images.now }
         requires number { x < length pairs.now.names }
         requires below { AreBelow (length pairs.now.names) others.now }
-        ensures lists { OnOk result (AreLists pairs.now (images_at symbols.now images.now) self.new.images) }
+        ensures read { OnOk result (HasReadOnly pairs.now (images_at symbols.now images.now) self.new) }
         ensures found { IfOk result (λ found. MatchOption found
             (is_number_disjoint pairs.now.statements (image_named pairs.now.names (images_at symbols.now images.now)) others.now x ≡ true)
             (IsUnpairedWith pairs.now (images_at symbols.now images.now) x others.now)) }
     {
-        let own = self.images.variables_of(pairs, symbols, images, x)?;
-        if own.start == own.end {
-            return Ok(None);
-        }
-        self.collect_others(pairs, symbols, images, x, others)?;
-        let own = self.images.variables_in(own);
-        let Some((variable, other)) = first_unpaired(&mut self.row, pairs, own, &self.others)?
+        let own = self.images.read_list(pairs, symbols, images, x, others)?;
+        let Some((variable, other)) = first_unpaired(
+            &mut self.row,
+            pairs,
+            self.images.variables_in(own),
+            self.images.others(),
+        )?
         else {
             return Ok(None);
         };
@@ -147,7 +148,7 @@ impl DisjointImages {
 
 /// Returns the first of the variables, and of the others, that are no pair of an active `$d`.
 ///
-/// Errors: an allocation fails. Cost: for each variable the symbols of the active `$d` that have
+/// Errors: those of `read_row`. Cost: for each variable the symbols of the active `$d` that have
 /// it, and the others, up to the first pair that is none.
 fn first_unpaired(
     row: &mut SymbolSet,
@@ -163,7 +164,7 @@ fn first_unpaired(
         (λ r. (has_number variables.now r.0 ≡ true) × (has_number others.now r.1 ≡ true) × (is_numbered_pair pairs.now r.0 r.1 ≡ false))) }
 {
     for variable in variables {
-        read_row(row, pairs, *variable)?;
+        read_row(row, 0, pairs, *variable)?;
         if let Some(other) = first_outside(&*row, others) {
             return Ok(Some((*variable, other)));
         }
@@ -216,7 +217,7 @@ fn has_in_image(symbols: &[u32], images: &ImageRanges, y: u32, symbol: u32) -> b
 {
     match images.get(y) {
         Some(range) => has_one(symbols_at(symbols, range), symbol),
-        None => symbol == y,
+        None => y == symbol,
     }
 }
 
@@ -224,5 +225,5 @@ fn has_in_image(symbols: &[u32], images: &ImageRanges, y: u32, symbol: u32) -> b
 fn has_one(list: &[u32], symbol: u32) -> bool
     ensures { result ≡ has_number list.now symbol }
 {
-    list.iter().any(|other| symbol == *other)
+    list.iter().any(|other| *other == symbol)
 }

@@ -40,7 +40,7 @@ fn spaces_verdict(alloc: Global, length: usize) -> Option<Verdict> {
 pub fn with_new_library<T, F: FnOnce(&mut Library) -> T>(alloc: Global, action: F) -> T
     requires { F.IsAlwaysCallable action }
 {
-    let mut library = Library::new(alloc);
+    let mut library = Library::new(alloc, None);
     let answer = action(&mut library);
     // An explicit `drop` is proved once for each type; a drop at the end of the scope would be
     // proved here.

@@ -98,7 +98,7 @@ pub fn make_three_nodes(
     let Ok(keeps) = vec![in alloc; first, others, FailOnceKeep::new(alloc, None, false)] else {
         return Err(StepFault::Memory);
     };
-    cells(alloc, Weights::equal(3), 1_000_000, keeps)
+    cells(alloc, Weights::equal(3), 1_000_000, None, keeps)
 }
 
 /// Restarts the first node.

@@ -159,13 +159,15 @@ fn all_agree(switch: &Switch<Carried, FailOnceKeep>, cells: &[NodeCell]) -> bool
     true
 }
 
-/// Returns which of two cells is ahead, or `None` if one does not belong to the switch.
+/// Returns which of two cells is ahead, or `None` if one does not belong to the switch or they have
+/// two limits on work.
 fn ahead_if_both_belong(
     one: &NodeCell,
     other: &NodeCell,
     switch: &Switch<Carried, FailOnceKeep>,
 ) -> Option<Ahead> {
-    if belongs(one, switch) && belongs(other, switch) {
+    let are_alike = one.work_limit() == other.work_limit();
+    if are_alike && belongs(one, switch) && belongs(other, switch) {
         Some(compare_on(one, other, switch))
     } else {
         None

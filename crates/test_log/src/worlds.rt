@@ -26,7 +26,7 @@ fn runs_to_its_end(alloc: Global) -> Result<bool, AllocError> {
 
 /// Returns whether all events are taken.
 fn runs_all(alloc: Global, events: Vec<Event<Entry>>) -> bool {
-    match run(alloc, Weights::equal(3), 16, events) {
+    match run(alloc, Weights::equal(3), 16, None, events) {
         Ok(world) => {
             let taken = world.history().len() == 15;
             // An explicit `drop` is proved once for each type; a drop at the end of the scope would
@@ -40,7 +40,7 @@ fn runs_all(alloc: Global, events: Vec<Event<Entry>>) -> bool {
 
 /// Returns whether all events are taken except the last, whose packet does not exist.
 fn stops_at_last(alloc: Global, events: Vec<Event<Entry>>) -> bool {
-    match run(alloc, Weights::equal(3), 16, events) {
+    match run(alloc, Weights::equal(3), 16, None, events) {
         Ok(world) => {
             drop(world);
             false
@@ -132,7 +132,7 @@ fn applies_all(world: &mut World) -> bool {
 /// Returns a world of one node that has learned two texts of one author with the same serial
 /// number.
 fn world_with_two_learned(alloc: Global) -> Result<World, StepFault> {
-    let mut world = World::new(alloc, Weights::equal(1), 100)?;
+    let mut world = World::new(alloc, Weights::equal(1), 100, None)?;
     learn_two(alloc, &mut world)?;
     Ok(world)
 }

@@ -53,6 +53,7 @@ pub fn start_three_nodes<
     let setup = ClusterSetup {
         weights,
         event_limit: 1_000_000,
+        work_limit: None,
         workers: PoolSize::new(2),
     };
     start(rt, alloc, &setup, gate, weathers, keeps)

@@ -61,7 +61,7 @@ fn nodes_answer_alike<R: Threads + Wait + Clock + Copy + Send + Sync + Drop + 's
     rt: &R,
     alloc: Global,
 ) -> Result<bool, StepFault> {
-    let mut library = Library::new(alloc);
+    let mut library = Library::new(alloc, None);
     let served = nodes_answer_like_filled(rt, alloc, &mut library);
     // An explicit `drop` is proved once for each type; a drop at the end of the scope would be
     // proved here.

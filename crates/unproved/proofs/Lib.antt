@@ -4,3 +4,4 @@ pub mod AssumedLemmas
 pub mod PlainLemmas
 pub mod PlainRightLemmas
 pub mod AssumedGoodLemmas
+mod RangeLemmas

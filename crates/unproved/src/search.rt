@@ -1,7 +1,7 @@
 //! Finds all `$p` that are not proved.
 ghost use Rattle.std.specs.Prelude.{◌≡◌, ◌-◌, ◌<◌, ◌≤◌, [], length, IfOk, OnOk};
 ghost use Rattle.scope.specs.Active.{bares};
-ghost use Rattle.unproved.specs.StatementRanges.{IsFirstUnprovedIn};
+ghost use Rattle.unproved.specs.StatementRanges.{IsFirstUnprovedIn, wrong_index};
 ghost use Rattle.unproved.specs.Unproved.{AreUnproved};
 
 use crate::statement_range::StatementRange;
@@ -10,7 +10,8 @@ use mm_read::Stmt;
 use proof_code::is_unfinished;
 use std::alloc::{AllocError, Global};
 use std::thread::Threads;
-use verify_pool::{Checkers, OpenGate, PoolSize, judge_all, judge_here};
+use verify::Meter;
+use verify_pool::{Checkers, OpenGate, Outcome, PoolSize, judge_all, judge_here};
 
 /// The largest number of statements in a range. Ranges are judged one after another.
 const MAX_RANGE_STATEMENTS: usize = 2_048;
@@ -104,6 +105,7 @@ fn push_unproved_of_range<R: Threads + Sync>(
 
 /// Returns the index, from 0 after the first `start` statements, of the first `$p` up to `end` that
 /// is not proved, or `None` if each is proved. One worker, or few statements, need no thread.
+#[tactic(auto, using(crate::proofs::RangeLemmas::first_unproved))]
 fn first_unproved_index<R: Threads + Sync>(
     search: &Search<'_, R>,
     checkers: &mut Checkers,
@@ -122,9 +124,21 @@ fn first_unproved_index<R: Threads + Sync>(
         start,
         end,
     };
+    let mut meter = Meter::new(None);
     if end - start < MIN_FOR_THREADS {
-        judge_here(checkers, &range)
-    } else {
-        judge_all(search.rt, checkers, &range, workers, &OpenGate)
+        let outcome = judge_here(checkers, &range, &mut meter)?;
+        return Ok(wrong_index(outcome));
+    }
+    let outcome = judge_all(search.rt, checkers, &range, workers, &OpenGate, &mut meter)?;
+    Ok(wrong_index(outcome))
+}
+
+/// Returns the index of the job that is wrong, if the outcome has one.
+fn wrong_index(outcome: Outcome) -> Option<usize>
+    ensures { result ≡ wrong_index outcome }
+{
+    match outcome {
+        Outcome::Wrong(index) => Some(index),
+        Outcome::AllRight | Outcome::TooCostly(_) => None,
     }
 }

@@ -3,7 +3,7 @@ use frame::Frames;
 use mm_read::Stmt;
 use std::alloc::AllocError;
 use std::marker::Model;
-use verify::{Answer, Checker};
+use verify::{Answer, Checker, Meter};
 use verify_pool::Work;
 
 /// The statements at positions `start + 1` to `end`; the job of index `i` is the one at
@@ -34,14 +34,24 @@ impl<'a> Work for StatementRange<'a> {
 
     ghost right = { IsProvedIn };
 
+    ghost work = { λ _ _. 0 };
+
     fn count(&self) -> usize {
         self.end - self.start
     }
 
-    fn judge(&self, index: usize, checker: &mut Checker) -> Result<Answer, AllocError> {
+    fn judge(
+        &self,
+        index: usize,
+        checker: &mut Checker,
+        _meter: &mut Meter,
+    ) -> Result<Answer, AllocError> {
         let at = self.start + index + 1;
         match &self.statements[at - 1] {
-            Stmt::Prove { proof, .. } => checker.prove(self.frames, at, proof),
+            Stmt::Prove { proof, .. } => {
+                let mut meter = Meter::new(None);
+                checker.prove(self.frames, at, proof, &mut meter)
+            }
             _ => Ok(Answer::Proved),
         }
     }

@@ -21,7 +21,7 @@ module _ (S : Database) (names : List Name) (at a : ℕ) (s : Stmt) (c : Asserti
 
   -- the conclusion with images by number, decoded, is the assertion's expression with the images of
   -- the names
-  conclusion-named : (ρ : CodeImages) → decode names (code_apply ρ c.conclusion.now) ≡ applied (images_of_names names ρ) (expr_of s)
+  pub conclusion-named : (ρ : CodeImages) → decode names (code_apply ρ c.conclusion.now) ≡ applied (images_of_names names ρ) (expr_of s)
   conclusion-named ρ = substitution_over_names names ρ c.conclusion.now legal.distinct (are-codes names c.conclusion.now is.conclusion_below) ∙ ap (applied (images_of_names names ρ)) is.conclusion
 
   -- if a citation can give f, the conditions of `Meets` hold

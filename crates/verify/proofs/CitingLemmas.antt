@@ -17,7 +17,7 @@ get-decode names (e ∷ rs) (suc k) = get-decode names rs k
 pub get-map-of : {A B : Type 0} (f : A → B) (xs : List A) (k : ℕ) (x : A) (d : B) → slice_get xs k ≡ Some x → get_or (map f xs) k d ≡ f x
 get-map-of f xs k x d h = get_or_from_slice_get (map f xs) k (f x) d (slice_get-map f xs k ∙ ap (option_map f) h)
 
-drop-decode : (names : List Name) (e : List ℕ) → drop 1 (decode names e) ≡ decode names (drop 1 e)
+pub drop-decode : (names : List Name) (e : List ℕ) → drop 1 (decode names e) ≡ decode names (drop 1 e)
 drop-decode names [] = refl
 drop-decode names (x ∷ e) = refl
 
@@ -94,7 +94,7 @@ module _ (S : Database) (names : List Name) (a : ℕ) (s : Stmt) (distinct : Are
     abbrev τ : Images
     τ = only V N
 
-    image-τ : (y : Name) → image τ y ≡ image N y
+    pub image-τ : (y : Name) → image τ y ≡ image N y
     image-τ y = image-only V N y ∙ by (V y) refl
       where
         by : (b : Bool) → V y ≡ b → cond b (image N y) (y ∷ []) ≡ image N y

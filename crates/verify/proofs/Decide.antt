@@ -78,7 +78,7 @@ module _ (S : Database) (at : ℕ) (single : HasSingleResults S at) (once : HasL
       runs_rest front rest q.0 mid end (subst (λ r. Runs S at r (front ++ rest) end) (steps_same st p.0 q.0 item p.1 q.1) p.2) q.2
 
   -- a step never decreases the weight
-  steps_weight : (st next : State) (item : Item) → RunsItem S at st item next → st.weight ≤ next.weight
+  pub steps_weight : (st next : State) (item : Item) → RunsItem S at st item next → st.weight ≤ next.weight
   steps_weight st next (Cite label) p = let e = ap (λ r. r.weight) p.3 in omega (arith, e)
   steps_weight st next (Recall k) p = let e = ap (λ r. r.weight) p.2 in omega (arith, e)
   steps_weight st next Mark p = let e = ap (λ r. r.weight) p.3 in omega (arith, e)

@@ -24,3 +24,9 @@ pub mod MarkLemmas
 mod Rows
 mod WorkRows
 pub mod StopLemmas
+pub mod WorkLemmas
+pub mod CountLemmas
+pub mod PairCountLemmas
+pub mod ItemCountLemmas
+pub mod RunCountLemmas
+pub mod CodeWorkLemmas

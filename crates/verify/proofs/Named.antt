@@ -24,7 +24,7 @@ module _ (names : List Name) where
       results-same (map (decode names) (b ++ e ∷ [])) (map (decode names) b ++ decode names e ∷ []) (map (decode names) st.saved) (map (decode names) st.saved) (st.weight + length e) (st.weight + length (decode names e))
       (map_push (decode names) b e) refl (ap (λ n. st.weight + n) (sym (length-map e (name_at names))))
 
-  named-mark : (st : Results ℕ) (e : List ℕ) → named names (with_mark st e) ≡ with_mark (named names st) (decode names e)
+  pub named-mark : (st : Results ℕ) (e : List ℕ) → named names (with_mark st e) ≡ with_mark (named names st) (decode names e)
   named-mark st e =
       results-same (map (decode names) st.stack) (map (decode names) st.stack) (map (decode names) (st.saved ++ e ∷ [])) (map (decode names) st.saved ++ decode names e ∷ []) st.weight st.weight
       refl (map_push (decode names) st.saved e) refl
@@ -32,7 +32,7 @@ module _ (names : List Name) where
   pub result-named : (st : Results ℕ) (b : List (List ℕ)) (e : List ℕ) → AreNamed names st → AllBelow (length names) b → AreBelow (length names) e → AreNamed names (with_result st b e)
   result-named st b e a p q = record { stack_named = all-snoc (length names) b e p q; saved_named = a.saved_named }
 
-  get-map-on : (es : List (List ℕ)) (k : ℕ) (e : List ℕ) → slice_get es k ≡ Some e → slice_get (map (decode names) es) k ≡ Some (decode names e)
+  pub get-map-on : (es : List (List ℕ)) (k : ℕ) (e : List ℕ) → slice_get es k ≡ Some e → slice_get (map (decode names) es) k ≡ Some (decode names e)
   get-map-on es k e h = slice_get-map (decode names) es k ∙ ap (option_map (decode names)) h
 
   get-map-back : (es : List (List ℕ)) (k : ℕ) (f : Expr) → slice_get (map (decode names) es) k ≡ Some f → (e : List ℕ) × (slice_get es k ≡ Some e) × (f ≡ decode names e)

@@ -1,5 +1,7 @@
 -- The answers for a right proof, and for a compressed proof that was read.
-use Rattle.verify.proofs.Words.{◌≡◌, ℕ, ◌≤◌, ◌<◌, ◌↔◌, min, List, [], length, map, get_or, Some, Result, Ok, Err, IfOk, refl, option_map, Bool, true, false, not, ◌∷◌, ◌++◌, take, sym, ◌∙◌, ap, subst, arith, inl, inr, true≢false, length-map, take_at, slice_get-get_or, not-false, not-true, Database, Stmt, HasLabelsOnce, Item, Extent, Node, TreePlan, Derivation, node_count, depth, IsRight, Derives, IsSmall, IsProvable, IsAnswerTo, trees, GrowsBy, pick, built, trees_of, IsPlan, extent_of, below-at, bare, bares, stmt_at, is_provable, before, stmt_at-bares, Name, hypotheses, items_of, share_label, IsHeadingWithNumbers, label_or_empty, mandatory_labels, Proves, some-same, bare-same, is_compressed, right_parenthesis, Writes, WritesCompressed, compressed_finished, one_list, Answer, Proved, Wrong}
+use Rattle.verify.proofs.Words.{◌≡◌, ℕ, ◌≤◌, ◌<◌, ◌↔◌, min, List, [], length, map, get_or, Some, Result, Ok, Err, IfOk, refl, option_map, Bool, true, false, not, ◌∷◌, ◌++◌, take, sym, ◌∙◌, ap, subst, arith, inl, inr, true≢false, length-map, take_at, slice_get-get_or, not-false, not-true, Database, Stmt, HasLabelsOnce, Item, Extent, Node, TreePlan, Derivation, node_count, depth, IsRight, Derives, IsSmall, IsProvable, IsAnswerIfAny, trees, GrowsBy, pick, built, trees_of, IsPlan, extent_of, below-at, bare, bares, stmt_at, is_provable, before, stmt_at-bares, Name, hypotheses, items_of, share_label, IsHeadingWithNumbers, label_or_empty, mandatory_labels, Proves, some-same, bare-same, is_compressed, right_parenthesis, Writes, WritesCompressed, compressed_finished, one_list, Answer, Proved, Wrong}
+use Rattle.proof_code.specs.Writes.{WritesFinishedNormal}
+use Rattle.verify.specs.declared.answer.Answer.TheVariants.{TooCostly}
 use Rattle.verify.specs.declared.answer.TreeFault.TheVariants.{Wrong}
 use Rattle.verify.proofs.GrowthLemmas.{spelled_once, leaves, only-number}
 use Rattle.verify.proofs.PlanLemmas.{length-built', child-extent}
@@ -71,28 +73,52 @@ module _ (S : Database) (at : ℕ) (s : Stmt) (tokens : List Name) (provable : I
     listed-is : take count words ≡ heading.listed
     listed-is = ap (take count) heading.whole ∙ take_at heading.listed (right_parenthesis ∷ heading.rest) count heading.many
 
-    -- if a mandatory label is listed, the tokens do not prove the statement
-    pub one-listed : (b : Bool) → b ≡ false → b ≡ not (share_label (mandatory_labels S at s) (take count words)) → Proves S at tokens → ⊥
-    one-listed b e is p =
-        heading.shared (mandatory_labels S at s) (ap (share_label (mandatory_labels S at s)) (sym listed-is) ∙ not-false (share_label (mandatory_labels S at s) (take count words)) (sym is ∙ e)) p.items (written-by p.items (written-of p))
+    -- if a mandatory label is listed, the tokens write no items
+    pub none-listed : (b : Bool) → b ≡ false → b ≡ not (share_label (mandatory_labels S at s) (take count words)) → (items : List Item) → WritesCompressed tokens (mandatory_labels S at s) items → ⊥
+    none-listed b e is =
+        heading.shared (mandatory_labels S at s) (ap (share_label (mandatory_labels S at s)) (sym listed-is) ∙ not-false (share_label (mandatory_labels S at s) (take count words)) (sym is ∙ e))
 
-    -- if no mandatory label is listed, the items of the numbers decide
+    -- and do not prove the statement
+    pub one-listed : (b : Bool) → b ≡ false → b ≡ not (share_label (mandatory_labels S at s) (take count words)) → Proves S at tokens → ⊥
+    one-listed b e is p = none-listed b e is p.items (written-by p.items (written-of p))
+
+    -- if no mandatory label is listed, the tokens write the items of the numbers
+    pub read-writes : (b : Bool) → b ≡ true → b ≡ not (share_label (mandatory_labels S at s) (take count words)) → length (mandatory_labels S at s) ≡ m
+        → WritesCompressed tokens (mandatory_labels S at s) (items_of (mandatory_labels S at s ++ take count words) numbers)
+    read-writes b e is long =
+        let apart : share_label (mandatory_labels S at s) heading.listed ≡ false =
+        ap (share_label (mandatory_labels S at s)) (sym listed-is) ∙ not-true (share_label (mandatory_labels S at s) (take count words)) (sym is ∙ e) in
+        subst (λ l. WritesCompressed tokens (mandatory_labels S at s) (items_of (mandatory_labels S at s ++ l) numbers)) (sym listed-is) (heading.none_shared (mandatory_labels S at s) long apart)
+
+    -- and these decide
     pub read-proves : {E : Type 0} (b : Bool) → b ≡ true → b ≡ not (share_label (mandatory_labels S at s) (take count words)) → length (mandatory_labels S at s) ≡ m
-        → (r : Result Answer E) → IfOk r (λ answer. IsAnswerTo answer (IsRight S at (items_of (mandatory_labels S at s ++ take count words) numbers)))
-        → IfOk r (λ answer. IsAnswerTo answer (Proves S at tokens))
+        → (r : Result Answer E) → IfOk r (λ answer. IsAnswerIfAny answer (IsRight S at (items_of (mandatory_labels S at s ++ take count words) numbers)))
+        → IfOk r (λ answer. IsAnswerIfAny answer (Proves S at tokens))
     read-proves {E = E} b e is long r says = by r says
       where
-        apart : share_label (mandatory_labels S at s) heading.listed ≡ false
-        apart = ap (share_label (mandatory_labels S at s)) (sym listed-is) ∙ not-true (share_label (mandatory_labels S at s) (take count words)) (sym is ∙ e)
-
         writes : WritesCompressed tokens (mandatory_labels S at s) (items_of (mandatory_labels S at s ++ take count words) numbers)
-        writes = subst (λ l. WritesCompressed tokens (mandatory_labels S at s) (items_of (mandatory_labels S at s ++ l) numbers)) (sym listed-is) (heading.none_shared (mandatory_labels S at s) long apart)
+        writes = read-writes b e is long
 
         written : Writes tokens (mandatory_labels S at s) (items_of (mandatory_labels S at s ++ take count words) numbers)
         written = inl (compressed, (compressed_finished tokens (mandatory_labels S at s) (items_of (mandatory_labels S at s ++ take count words) numbers) writes, writes))
 
-        by : (r : Result Answer E) → IfOk r (λ answer. IsAnswerTo answer (IsRight S at (items_of (mandatory_labels S at s ++ take count words) numbers))) → IfOk r (λ answer. IsAnswerTo answer (Proves S at tokens))
+        by : (r : Result Answer E) → IfOk r (λ answer. IsAnswerIfAny answer (IsRight S at (items_of (mandatory_labels S at s ++ take count words) numbers))) → IfOk r (λ answer. IsAnswerIfAny answer (Proves S at tokens))
         by (Err x) h = tt
+        by (Ok TooCostly) h = tt
         by (Ok Proved) h = record { stmt = s; items = items_of (mandatory_labels S at s ++ take count words) numbers; provable = provable; written = written; right = h }
         by (Ok Wrong) h = λ p.
             h (subst (IsRight S at) (one_list tokens (mandatory_labels S at s) p.items (items_of (mandatory_labels S at s ++ take count words) numbers) (written-of p) written) p.right)
+
+-- the items of a normal proof decide
+pub normal-proves : {E : Type 0} (S : Database) (at : ℕ) (s : Stmt) (tokens : List Name) → IsProvable S at s → is_compressed tokens ≡ false → (items : List Item) → WritesFinishedNormal tokens items
+    → (r : Result Answer E) → IfOk r (λ answer. IsAnswerIfAny answer (IsRight S at items)) → IfOk r (λ answer. IsAnswerIfAny answer (Proves S at tokens))
+normal-proves {E = E} S at s tokens provable normal items w r says = by r says
+  where
+    same : (others : List Item) → Writes tokens (mandatory_labels S at s) others → others ≡ items
+    same others v = elim v [ inl p ↦ absurd (true≢false (sym p.0 ∙ normal)) | inr p ↦ p.1.1.cites ∙ sym w.1.cites ]
+
+    by : (r : Result Answer E) → IfOk r (λ answer. IsAnswerIfAny answer (IsRight S at items)) → IfOk r (λ answer. IsAnswerIfAny answer (Proves S at tokens))
+    by (Err x) h = tt
+    by (Ok TooCostly) h = tt
+    by (Ok Proved) h = record { stmt = s; items = items; provable = provable; written = inr (normal, w); right = h }
+    by (Ok Wrong) h = λ p. h (subst (IsRight S at) (same p.items (subst (λ t. Writes tokens (mandatory_labels S at t) p.items) (some-same p.provable.stands provable.stands) p.written)) p.right)

@@ -75,7 +75,7 @@ pub use Rattle.verify.specs.Plan.{AddsNode, AreOrdered, IsAfter, IsPlan, IsPlanO
 pub use Rattle.verify.specs.Proves.{Proves, label_or_empty, mandatory_labels}
 pub use Rattle.verify.specs.ReadPlaces.{BeginsWith, IsMistyped, ReadTo, ReadsAll, tail_of}
 pub use Rattle.verify.specs.ResultPlaces.{Adds, AreResultRanges, HeldResults, IsKept, Marks, Recalls, below, results_in, top}
-pub use Rattle.verify.specs.Right.{Derives, IsProvable, IsRight, IsSmall, IsAnswerTo, weight_limit}
+pub use Rattle.verify.specs.Right.{Derives, IsProvable, IsRight, IsSmall, IsAnswerIfAny, IsAnswerTo, weight_limit}
 pub use Rattle.verify.specs.Spells.{IsCitable, Spells, SpellsAll, cites_assertion, cites_hypothesis, marks, recalls, spells_more, spells_none}
 pub use Rattle.verify.specs.RunsItemByNumber.{AreNamed, TellsDisjoint, HasCited, MayCite, RunsItemByNumber, RunsItemIn, named}
 pub use Rattle.verify.specs.Stops.{StopsAt}
@@ -95,5 +95,5 @@ pub use Rattle.verify.specs.declared.tree.Tree.{Tree}
 pub use Rattle.frame.specs.ListsOfPairs.{is_numbered_pair}
 pub use Rattle.frame.specs.MandatoryPairs.{IsPairList, float_variables, pair_lists}
 pub use Rattle.subst.specs.Images.{are_numbered_lists_disjoint, is_numbered_list_disjoint}
-pub use Rattle.subst.specs.Stored.VariableLists.{HasReadOnly}
+pub use Rattle.subst.specs.ReadImages.{HasReadOnly}
 pub use Rattle.std.proofs.lemmas.List.Folds.{list_all_more}

@@ -4,6 +4,7 @@ pub mod Concludes
 pub mod Spells
 pub mod Right
 pub mod Machine
+pub mod Metered
 pub mod ResultPlaces
 pub mod HypothesisResults
 pub mod ReadPlaces
@@ -16,4 +17,5 @@ pub mod Plan
 pub mod Extents
 pub mod Proves
 pub mod Work
+pub mod Counted
 pub mod Laws

@@ -4,7 +4,7 @@
 use Rattle.std.specs.Prelude.{◌≡◌, ℕ, ◌≤◌, IsTrue, List, [], Some}
 use Rattle.verify.specs.Words.{Stmt, Database, stmt_at, expr_of, is_provable, Item}
 use Rattle.verify.specs.declared.answer.Answer.{Answer}
-use Rattle.verify.specs.declared.answer.Answer.TheVariants.{Proved, Wrong}
+use Rattle.verify.specs.declared.answer.Answer.TheVariants.{Proved, TooCostly, Wrong}
 use Rattle.verify.specs.Derivations.{Derivation, node_count, depth}
 use Rattle.verify.specs.Concludes.{Concludes}
 use Rattle.verify.specs.Spells.{Spells}
@@ -40,10 +40,17 @@ pub record Derives (S : Database) (at : ℕ) (items : List Item) (t : Derivation
 abbrev pub IsRight : Database → ℕ → List Item → Type 0
 IsRight S at items = (t : Derivation) × Derives S at items t
 
--- the meaning of the verifier's answer on whether P holds
+-- the meaning of the verifier's answer on whether P holds, where nothing is too costly
 abbrev pub IsAnswerTo : Answer → Type 0 → Type 0
 IsAnswerTo Proved P = P
 IsAnswerTo Wrong P = ¬ P
+IsAnswerTo TooCostly P = ⊥
+
+-- the same where it may be too costly, which says nothing of P
+abbrev pub IsAnswerIfAny : Answer → Type 0 → Type 0
+IsAnswerIfAny Proved P = P
+IsAnswerIfAny Wrong P = ¬ P
+IsAnswerIfAny TooCostly P = Unit {0}
 
 -- the derivation is small enough to be returned
 abbrev pub IsSmall : Derivation → Type 0

@@ -12,6 +12,8 @@ pub enum Answer {
     Proved,
     /// The proof is not right.
     Wrong,
+    /// The work of the proof is past the limit of its meter, so it is not known whether it is right.
+    TooCostly,
 }
 
 /// The reason why no derivation is returned.

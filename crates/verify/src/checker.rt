@@ -1,24 +1,30 @@
 //! The check of a whole proof.
 
-ghost use Rattle.std.specs.Prelude.{◌≡◌, false, List, IfOk};
+ghost use Rattle.std.specs.Prelude.{◌≡◌, ◌*◌, false, List, IfOk};
 ghost use Rattle.mm_lex.specs.Alphabet.{Name};
 ghost use Rattle.mm_read.specs.declared.stmt.Stmt.{Stmt as Statement};
 ghost use Rattle.proof_code.specs.ItemNumbers.{items_of};
 ghost use Rattle.proof_code.specs.Writes.{is_compressed};
 ghost use Rattle.verify.specs.LabelTable.{AreEntries};
 ghost use Rattle.verify.specs.Proves.{Proves};
-ghost use Rattle.verify.specs.Right.{IsProvable, IsRight, IsAnswerTo};
+ghost use Rattle.scope.specs.Active.{before};
+ghost use Rattle.verify.specs.Counted.{HasCountedAnswer, HasCountedProof};
+ghost use Rattle.verify.specs.Machine.{start};
+ghost use Rattle.verify.specs.Right.{IsAnswerIfAny, IsProvable, IsRight, IsAnswerTo};
+ghost use Rattle.verify.specs.Work.{items_work};
 
 use crate::answer::Answer;
 use crate::citation::{Buffers, ProofContext};
 use crate::failure::run_items;
 use crate::label_table::{LabelEntry, add_listed, fill_mandatory, fill_table};
 use crate::listener::Silent;
+use crate::meter::Meter;
 use crate::results::Results;
 use frame::{FrameBuffers, Frames, PairBuffer};
 use mm_lex::Words;
-use proof_code::{CodeFault, Items, Reader, is_compressed, normal};
+use proof_code::{Items, Reader, is_compressed, items_or_none, normal};
 use std::alloc::{AllocError, Global};
+use subst::Stop;
 
 /// `Checker::shrink` keeps the memory that proofs up to this size need (`Checker::largest` defines
 /// the size): 1 MB for this many symbols.
@@ -100,13 +106,37 @@ impl Checker {
         requires provable { (s : Statement) × IsProvable frames.now.statements at s }
         ensures answer { IfOk result (λ answer. IsAnswerTo answer (IsRight frames.now.statements at items.now)) }
     {
+        self.check_counted(frames, at, items, &mut Meter::new(None))
+    }
+
+    /// Does so, and counts the items.
+    fn check_counted(
+        &mut self,
+        frames: &Frames,
+        at: usize,
+        items: &Items,
+        meter: &mut Meter,
+    ) -> Result<Answer, AllocError>
+        requires provable { (s : Statement) × IsProvable frames.now.statements at s }
+        ensures answer { IfOk result (λ answer. IsAnswerIfAny answer (IsRight frames.now.statements at items.now)) }
+        ensures counted { IfOk result (HasCountedAnswer (items_work (before frames.now.statements at) items.now start) meter.old meter.new) }
+    {
         let parts = items.parts();
         self.record_size(parts.numbers.len());
         fill_table(frames, at, parts.labels, &mut self.table)?;
-        check_numbers(frames, at, &self.table, parts.numbers, &mut self.buffers)
+        check_numbers(
+            frames,
+            at,
+            &self.table,
+            parts.numbers,
+            &mut self.buffers,
+            meter,
+        )
     }
 
-    /// Returns whether the tokens write a right proof of the `$p` at that position.
+    /// Returns whether the tokens write a right proof of the `$p` at that position. Counts the work
+    /// of the proof; where it is past the limit of the meter, behind an item, within a citation or
+    /// before the items, the run ends there.
     ///
     /// Errors: an allocation fails, or the results would exceed the limit set by
     /// `set_symbol_limit`.
@@ -119,24 +149,32 @@ impl Checker {
         frames: &Frames,
         at: usize,
         tokens: &Words,
+        meter: &mut Meter,
     ) -> Result<Answer, AllocError>
         requires provable { (s : Statement) × IsProvable frames.now.statements at s }
-        ensures answer { IfOk result (λ answer. IsAnswerTo answer (Proves frames.now.statements at tokens.now)) }
+        ensures answer { IfOk result (λ answer. IsAnswerIfAny answer (Proves frames.now.statements at tokens.now)) }
+        ensures counted { IfOk result (HasCountedProof frames.now.statements at tokens.now meter.old meter.new) }
     {
         self.record_size(tokens.as_text().len());
         if !is_compressed(tokens) {
-            return self.prove_normal(frames, at, tokens);
+            return self.prove_normal(frames, at, tokens, meter);
         }
         fill_mandatory(frames, at, &mut self.mandatory, &mut self.table)?;
         let count = self.mandatory.as_slice().len();
         let Some(heading) = self.reader.read(tokens, count)? else {
             return Ok(Answer::Wrong);
         };
+        let listed = heading.count;
         if !add_listed(frames, at, &self.mandatory, heading, &mut self.table)? {
             return Ok(Answer::Wrong);
         }
+        meter.add(work_of_tokens(listed)?)?;
+        meter.add(frames.size(at))?;
+        if meter.is_past() {
+            return Ok(Answer::TooCostly);
+        }
         let numbers = self.reader.numbers();
-        check_numbers(frames, at, &self.table, numbers, &mut self.buffers)
+        check_numbers(frames, at, &self.table, numbers, &mut self.buffers, meter)
     }
 
     /// Returns whether the tokens write a right proof, in normal form, of the `$p` at that
@@ -149,16 +187,21 @@ impl Checker {
         frames: &Frames,
         at: usize,
         tokens: &Words,
+        meter: &mut Meter,
     ) -> Result<Answer, AllocError>
         requires provable { (s : Statement) × IsProvable frames.now.statements at s }
         requires normal { is_compressed tokens.now ≡ false }
-        ensures answer { IfOk result (λ answer. IsAnswerTo answer (Proves frames.now.statements at tokens.now)) }
+        ensures answer { IfOk result (λ answer. IsAnswerIfAny answer (Proves frames.now.statements at tokens.now)) }
+        ensures counted { IfOk result (HasCountedProof frames.now.statements at tokens.now meter.old meter.new) }
     {
-        match normal(self.alloc, tokens) {
-            Ok(items) => self.check(frames, at, &items),
-            Err(CodeFault::Memory) => Err(AllocError),
-            Err(_) => Ok(Answer::Wrong),
+        let Some(items) = items_or_none(normal(self.alloc, tokens))? else {
+            return Ok(Answer::Wrong);
+        };
+        meter.add(work_of_tokens(tokens.len())?)?;
+        if meter.is_past() {
+            return Ok(Answer::TooCostly);
         }
+        self.check_counted(frames, at, &items, meter)
     }
 }
 
@@ -184,18 +227,34 @@ fn check_numbers(
     table: &[LabelEntry],
     numbers: &[u32],
     buffers: &mut Buffers,
+    meter: &mut Meter,
 ) -> Result<Answer, AllocError>
     requires provable { (s : Statement) × IsProvable frames.now.statements at s }
     requires entries { (labels : List Name) × AreEntries frames.now.statements at labels table.now }
-    ensures { (labels : List Name) → AreEntries frames.now.statements at labels table.now
-        → IfOk result (λ answer. IsAnswerTo answer (IsRight frames.now.statements at (items_of labels numbers.now))) }
+    ensures answer { (labels : List Name) → AreEntries frames.now.statements at labels table.now
+        → IfOk result (λ answer. IsAnswerIfAny answer (IsRight frames.now.statements at (items_of labels numbers.now))) }
+    ensures counted { (labels : List Name) → AreEntries frames.now.statements at labels table.now
+        → IfOk result (HasCountedAnswer (items_work (before frames.now.statements at) (items_of labels numbers.now) start) meter.old meter.new) }
 {
     let pairs = frames.active_pairs(at);
     let context = ProofContext { frames, at, pairs };
-    let done = run_items(&context, table, numbers, buffers, &mut Silent)?;
+    let done = match run_items(&context, table, numbers, buffers, meter, &mut Silent) {
+        Ok(done) => done,
+        Err(Stop::TooCostly) => return Ok(Answer::TooCostly),
+        Err(Stop::Memory) => return Err(AllocError),
+    };
     if done == numbers.len() && buffers.results.is_only(frames.expr(at)) {
         Ok(Answer::Proved)
     } else {
         Ok(Answer::Wrong)
     }
+}
+
+/// Returns what so many tokens count.
+///
+/// Errors: that is 2^64 or more.
+fn work_of_tokens(count: usize) -> Result<u64, AllocError>
+    ensures { IfOk result (λ work. work ≡ 16 * count) }
+{
+    (count as u64).checked_mul(16).ok_or(AllocError)
 }

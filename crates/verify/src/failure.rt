@@ -1,11 +1,14 @@
 //! The run over the items of a proof, up to the first that cannot be done.
 
-ghost use Rattle.std.specs.Prelude.{◌≡◌, List, take, IfOk, IfSome, MatchOption, Some};
+ghost use Rattle.std.specs.Prelude.{◌≡◌, List, take, IfErr, IfOk, IfSome, IsTrue, MatchOption};
+ghost use Rattle.std.specs.Prelude.{Some};
 ghost use Rattle.frame.specs.AtPosition.{HasLegalProperties};
 ghost use Rattle.mm_lex.specs.Alphabet.{Name};
 ghost use Rattle.mm_read.specs.declared.stmt.Stmt.{Stmt as Statement};
 ghost use Rattle.proof_code.specs.ItemNumbers.{items_of};
 ghost use Rattle.scope.specs.Active.{stmt_at};
+ghost use Rattle.verify.specs.Counted.{work_in};
+ghost use Rattle.verify.specs.Metered.{is_past, with_work};
 ghost use Rattle.verify.specs.RunsItemByNumber.{AreEntriesIn, IsReady};
 ghost use Rattle.verify.specs.Right.{IsProvable, IsRight};
 ghost use Rattle.verify.specs.Stops.{HasHeardAll, IsFirstFailure, IsOutcome, StopsIn};
@@ -14,10 +17,12 @@ ghost use Rattle.verify.specs.Walk.{walk, walk_start};
 use crate::citation::{Buffers, ProofContext, step};
 use crate::label_table::{LabelEntry, fill_table};
 use crate::listener::{Listener, Silent};
+use crate::meter::Meter;
 use crate::results::Results;
 use frame::{FrameBuffers, Frames, PairBuffer};
 use proof_code::Items;
 use std::alloc::{AllocError, Global};
+use subst::Stop;
 
 /// Where the run over the items of a proof fails, and the results before it.
 #[derive(Drop)]
@@ -39,19 +44,27 @@ pub enum Outcome {
 
 /// Runs the items with these numbers up to the first that cannot be done, tells the listener of
 /// each that was done, and returns how many were done. The table has the meaning of each label.
+/// Counts the items, also the one that cannot be done.
 ///
-/// Errors: an allocation fails, or the results would exceed the limit set by
-/// `Results::set_symbol_limit`.
+/// Errors: the count is past the limit, behind an item or within a citation; an allocation fails, or
+/// the results would exceed the limit set by `Results::set_symbol_limit`.
 #[inline(always)]
 pub(crate) fn run_items<L: Listener>(
     context: &ProofContext<'_>,
     table: &[LabelEntry],
     numbers: &[u32],
     buffers: &mut Buffers,
+    meter: &mut Meter,
     listener: &mut L,
-) -> Result<usize, AllocError>
+) -> Result<usize, Stop>
     requires ready { IsReady context.now }
     requires entries { (labels : List Name) × AreEntriesIn context.now labels table.now }
+    ensures counted { (labels : List Name) → AreEntriesIn context.now labels table.now
+        → IfOk result (λ done. meter.new ≡ with_work meter.old (work_in context.now (items_of labels numbers.now))) }
+    ensures costly { (labels : List Name) → AreEntriesIn context.now labels table.now
+        → IfErr result
+        (λ stop. stop ≡ Stop.TooCostly
+        → IsTrue (is_past (with_work meter.old (work_in context.now (items_of labels numbers.now))))) }
     ensures stops { (labels : List Name) → AreEntriesIn context.now labels table.now
         → IfOk result (λ done. StopsIn context.now (items_of labels numbers.now) done buffers.new.results.results) }
     ensures heard { (labels : List Name) → AreEntriesIn context.now labels table.now
@@ -63,7 +76,14 @@ pub(crate) fn run_items<L: Listener>(
 {
     buffers.results.start();
     for (done, number) in numbers.iter().enumerate() {
-        if !step(context, table, *number, buffers, listener)? {
+        let weight = buffers.results.weight();
+        let was_done = step(context, table, *number, buffers, meter, listener)?;
+        meter.add(1)?;
+        meter.add((buffers.results.weight() - weight) as u64)?;
+        if meter.is_past() {
+            return Err(Stop::TooCostly);
+        }
+        if !was_done {
             return Ok(done);
         }
     }
@@ -98,7 +118,15 @@ pub fn run<L: Listener>(
     };
     let pairs = frames.active_pairs(at);
     let context = ProofContext { frames, at, pairs };
-    let done = run_items(&context, &table, parts.numbers, &mut buffers, listener)?;
+    let mut meter = Meter::new(None);
+    let done = run_items(
+        &context,
+        &table,
+        parts.numbers,
+        &mut buffers,
+        &mut meter,
+        listener,
+    )?;
     let results = buffers.results;
     let is_only = results.is_only(frames.expr(at));
     if done < parts.numbers.len() {

@@ -8,7 +8,7 @@
 //!
 //! One run goes over the items (`failure::run_items`) and tells a `Listener` of each that was done.
 //!
-//! Reading order: `answer`, `tree`; `disjointness`, `results` (as ranges of one buffer),
+//! Reading order: `answer`, `tree`, `meter`; `disjointness`, `results` (as ranges of one buffer),
 //! `label_table`, `listener`, `citation` (one item), `failure` (all items), `checker` (a whole
 //! proof); `plan` (a listener that makes the derivation); `laws`.
 #![tactic(auto)]
@@ -21,6 +21,7 @@ mod failure;
 mod label_table;
 pub mod laws;
 mod listener;
+mod meter;
 mod plan;
 mod results;
 mod tree;
@@ -29,6 +30,8 @@ pub use answer::{Answer, TreeFault};
 pub use checker::{Checker, check};
 pub use failure::{Failure, Outcome, first_failure, run};
 pub use listener::Listener;
+pub use meter::Meter;
 pub use plan::{MAX_DEPTH, MAX_NODES, derivation};
 pub use results::Results;
+pub use subst::Stop;
 pub use tree::Tree;

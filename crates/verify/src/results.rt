@@ -3,7 +3,7 @@
 ghost use Rattle.std.specs.Prelude.{take, List, ℕ, suc, ◌≡◌, ◌<◌, ◌≤◌, ◌↔◌, ◌∷◌, ◌++◌, [], length};
 ghost use Rattle.std.specs.Prelude.{slice_get, nat_eq, ◌==◌, Some, is_some, if◌then◌else◌, IfOk};
 ghost use Rattle.std.specs.Prelude.{IfSome, OnOk, OnErr, IsTrue, drop, get_or, map, true};
-ghost use Rattle.std.specs.Prelude.{MatchOption};
+ghost use Rattle.std.specs.Prelude.{IfErr, MatchOption};
 ghost use Rattle.frame.specs.AtPosition.{HasLegalProperties};
 ghost use Rattle.frame.specs.Below.{AllBelow, AreBelow};
 ghost use Rattle.frame.specs.ListsOfPairs.{is_numbered_pair};
@@ -18,18 +18,21 @@ ghost use Rattle.verify.specs.HypothesisResults.{AreDifferent, ArePresent, HasSe
 ghost use Rattle.verify.specs.HypothesisResults.{LastResultsMatch, Reads, AreGiven};
 ghost use Rattle.subst.specs.DisjointImages.{are_numbers_disjoint, image_named};
 ghost use Rattle.subst.specs.Violations.{IsViolation};
+ghost use Rattle.verify.specs.Counted.{AreMadePast, ArePastLists, HasCountedLists, HasCountedMade};
+ghost use Rattle.verify.specs.Counted.{is_past_with};
 ghost use Rattle.verify.specs.ReadPlaces.{BeginsWith, ReadsAll, tail_of};
 ghost use Rattle.verify.specs.ResultPlaces.{Adds, IsKept, Marks, Recalls, below, top};
 ghost use Rattle.verify.specs.Right.{weight_limit};
 ghost use Rattle.verify.specs.Walk.{IsLastRange};
 
 use crate::disjointness::{are_lists_disjoint, are_made_lists_disjoint};
+use crate::meter::Meter;
 use entries::{Groups, Hypotheses, Hypothesis};
 use frame::{Frames, PairBuffer, Pairs};
 use std::alloc::{AllocError, Global};
 use std::marker::Model;
 use subst::{
-    Buffer, DisjointImages, DisjointViolation, ImageRanges, SYMBOLS_LIMIT, SymbolRange,
+    Buffer, DisjointImages, DisjointViolation, ImageRanges, SYMBOLS_LIMIT, Stop, SymbolRange,
     first_violation, range_between, symbols_at,
 };
 
@@ -107,6 +110,7 @@ impl Results {
     #[inline(never)]
     pub fn add(&mut self, expr: &[u32]) -> Result<bool, AllocError>
         ensures adds { IfOk result (λ ok. Adds ok self.old.results self.new.results self.old.results.stack expr.now) }
+        ensures light { IfOk result (λ _. self.new.results.weight ≤ weight_limit) }
         ensures kept { IfOk result (λ ok. IsKept ok self.old self.new) }
     {
         if expr.len() > SYMBOLS_LIMIT - self.weight {
@@ -145,6 +149,7 @@ impl Results {
     #[inline(always)]
     pub fn recall(&mut self, index: usize) -> Result<bool, AllocError>
         ensures recalls { IfOk result (λ ok. Recalls ok self.old.results self.new.results (suc index)) }
+        ensures light { IfOk result (λ _. self.new.results.weight ≤ weight_limit) }
         ensures kept { IfOk result (λ ok. IsKept ok self.old self.new) }
     {
         if index >= self.saved.len() {
@@ -221,40 +226,48 @@ impl Results {
     }
 
     /// Returns whether the images are disjoint by these lists of pairs, at the statement of the
-    /// pairs: the image of the first variable of each list from those of the others.
+    /// pairs: the image of the first variable of each list from those of the others. Counts them.
     ///
-    /// Errors: an allocation fails. Cost: that of `disjointness::are_lists_disjoint`.
+    /// Errors: the meter is past its limit; an allocation fails. Cost: that of `disjointness::are_lists_disjoint`.
     #[inline(always)]
     pub fn are_disjoint(
         &mut self,
         pairs: &Pairs<'_>,
         lists: &Groups<'_>,
-    ) -> Result<bool, AllocError>
+        meter: &mut Meter,
+    ) -> Result<bool, Stop>
         requires distinct { AreDistinct pairs.now.names }
         requires over { AreOver pairs.now.names self.old.images }
         requires below { AllBelow (length pairs.now.names) lists.now }
         ensures same { self.new ≡ self.old }
         ensures disjoint { IfOk result (λ ok. ok ≡ are_numbered_lists_disjoint pairs.now self.old.images lists.now) }
+        ensures counted { OnOk result (HasCountedLists pairs.now self.old.images lists.now meter.old meter.new) }
+        ensures costly { IfErr result (λ stop. stop ≡ Stop.TooCostly
+            → ArePastLists (is_past_with meter.old) pairs.now self.old.images lists.now) }
     {
-        are_lists_disjoint(
+        self.disjoint_images.begin_citation(meter.left());
+        let all = are_lists_disjoint(
             &mut self.disjoint_images,
             pairs,
             self.symbols.as_slice(),
             &self.images,
             lists,
-        )
+        );
+        meter.add(self.disjoint_images.work())?;
+        all
     }
 
     /// Returns whether the images are disjoint by the mandatory pairs of an assertion, whose lists
-    /// are made one by one: `cited` has the pairs there, and `made` its variables.
+    /// are made one by one: `cited` has the pairs there, and `made` its variables. Counts them.
     ///
-    /// Errors: an allocation fails. Cost: that of `disjointness::are_made_lists_disjoint`.
+    /// Errors: the meter is past its limit; an allocation fails. Cost: that of `disjointness::are_made_lists_disjoint`.
     pub fn are_made_disjoint(
         &mut self,
         pairs: &Pairs<'_>,
         cited: &Pairs<'_>,
         made: &mut PairBuffer,
-    ) -> Result<bool, AllocError>
+        meter: &mut Meter,
+    ) -> Result<bool, Stop>
         requires distinct { AreDistinct pairs.now.names }
         requires over { AreOver pairs.now.names self.old.images }
         requires names { cited.now.names ≡ pairs.now.names }
@@ -263,15 +276,24 @@ impl Results {
         ensures disjoint { IfOk result
             (λ ok. ok ≡ are_numbered_lists_disjoint pairs.now self.old.images
             (pair_lists (is_numbered_pair cited.now) [] made.old.variables)) }
+        ensures counted { OnOk result
+            (HasCountedMade pairs.now self.old.images
+            (pair_lists (is_numbered_pair cited.now) [] made.old.variables) meter.old meter.new) }
+        ensures costly { IfErr result (λ stop. stop ≡ Stop.TooCostly
+            → AreMadePast (is_past_with meter.old) pairs.now self.old.images
+            (pair_lists (is_numbered_pair cited.now) [] made.old.variables)) }
     {
-        are_made_lists_disjoint(
+        self.disjoint_images.begin_citation(meter.left());
+        let all = are_made_lists_disjoint(
             &mut self.disjoint_images,
             pairs,
             self.symbols.as_slice(),
             &self.images,
             cited,
             made,
-        )
+        );
+        meter.add(self.disjoint_images.work())?;
+        all
     }
 
     /// Pops the last `count` results and pushes the expression with the images substituted, or
@@ -285,6 +307,7 @@ impl Results {
         ensures adds { IfOk result
             (λ ok. Adds ok self.old.results self.new.results (below count self.old.results.stack)
             (code_apply self.old.images expr.now)) }
+        ensures light { IfOk result (λ _. self.new.results.weight ≤ weight_limit) }
         ensures kept { IfOk result (λ ok. IsKept ok self.old self.new) }
     {
         let keep = self.stack.len() - count;

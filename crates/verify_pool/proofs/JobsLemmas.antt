@@ -1,16 +1,10 @@
 -- Jobs stay jobs when statements are appended; the last `$p` is the next job.
-use Rattle.verify_pool.proofs.Words.{◌≡◌, ℕ, zero, suc, ◌++◌, ◌⊎◌, inl, inr, List, [], ◌∷◌, length, slice_get, Some, IsTrue, arith, sym, subst, ap, ◌∙◌, same_Some, none-some, Database, Job, IsJob, AreJobs}
+use Rattle.verify_pool.proofs.Words.{◌≡◌, ℕ, zero, suc, ◌++◌, inl, inr, List, [], ◌∷◌, length, slice_get, Some, IsTrue, arith, sym, subst, ap, ◌∙◌, none-some, Database, Job, IsJob, AreJobs}
 use Rattle.std.proofs.lemmas.List.{length-append}
+use Rattle.verify_pool.proofs.StripeLemmas.{get_added}
 use Rattle.mm_read.specs.declared.stmt.Stmt.{Stmt}
 use Rattle.scope.specs.Active.{stmt_at, is_provable}
 pub use Rattle.entries.proofs.StatementRecordLemmas.{get-more, get-last}
-
--- an element of a list with one element appended is an old element or the new one
-get_added : {X : Type 0} (xs : List X) (x y : X) (k : ℕ) → slice_get (xs ++ x ∷ []) k ≡ Some y → (slice_get xs k ≡ Some y) ⊎ (x ≡ y)
-get_added [] x y zero e = inr (same_Some x y e)
-get_added [] x y (suc k) e = absurd (none-some y e)
-get_added (z ∷ xs) x y zero e = inl e
-get_added (z ∷ xs) x y (suc k) e = get_added xs x y k e
 
 -- a statement keeps its position when others are appended
 pub stmt_stays : (S more : Database) (at : ℕ) (s : Stmt) → stmt_at S at ≡ Some s → stmt_at (S ++ more) at ≡ Some s
@@ -34,7 +28,7 @@ job_added : (S : Database) (jobs : List Job) (job : Job) → AreJobs S jobs → 
 job_added S jobs job are is k other stands =
     elim (get_added jobs job other k stands) as (λ _. IsJob S other) [
       | inl old ↦ are k other old
-      | inr same ↦ subst (IsJob S) same is
+      | inr same ↦ subst (IsJob S) same.1 is
     ]
 
 -- jobs are still jobs when one statement is appended

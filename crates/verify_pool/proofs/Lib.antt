@@ -1,4 +1,5 @@
 pub mod Words
-pub mod LeastLemmas
+pub mod FirstStopLemmas
+pub mod FirstWrongLemmas
 pub mod StripeLemmas
 pub mod JobsLemmas

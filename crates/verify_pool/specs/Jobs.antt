@@ -2,12 +2,11 @@
 -- Source: Metamath, 4.2.6 and appendix B, for a right proof (`verify`); this project, for the first
 -- one that is not right.
 -- The code deals the jobs out to workers; here they are one list, judged in order.
-use Rattle.std.specs.Prelude.{◌≡◌, ℕ, List, slice_get, Option, Some, IfSome, MatchOption}
+use Rattle.std.specs.Prelude.{◌≡◌, ℕ, ◌<◌, List, slice_get, Option, Some, None, IfSome, MatchOption, ⊤}
 use Rattle.mm_read.specs.declared.stmt.Stmt.{Stmt}
 use Rattle.mm_read.specs.Statements.{Database}
 use Rattle.verify.specs.Right.{IsProvable, IsRight}
 use Rattle.verify_pool.specs.declared.job.Job.{Job}
-use Rattle.verify_pool.specs.Least.{IsBefore}
 
 -- a `$p` is at the job's position
 abbrev pub IsJob : Database → Job → Type 0
@@ -29,6 +28,11 @@ IsRightJob S job = MatchOption job.items ⊥ (λ items. IsRight S job.at items)
 -- the job of that index, if there is one, is right
 abbrev pub IsRightAt : Database → List Job → ℕ → Type 0
 IsRightAt S jobs k = (job : Job) → slice_get jobs k ≡ Some job → IsRightJob S job
+
+-- index k is before the answer; if the answer is none, each index is
+abbrev pub IsBefore : ℕ → Option ℕ → Type 0
+IsBefore k None = ⊤
+IsBefore k (Some i) = k < i
 
 -- each job before the answer is right
 abbrev pub AreRightBefore : Database → List Job → Option ℕ → Type 0

@@ -1,4 +1,4 @@
-pub mod Least
+pub mod FirstStop
 pub mod Jobs
 pub mod Stripes
 pub mod Laws

@@ -8,16 +8,26 @@ use verify::Checker;
 /// needs more is heavy, and is left to the calling thread.
 pub const MAX_WORKER_SYMBOLS: usize = 1_048_576;
 
-/// A worker's checker, and the outcome of the worker's jobs.
+/// What a worker found out about a job.
+#[derive(Clone, Copy, Debug, PartialEq, Eq)]
+pub enum Found {
+    /// It is right, and counts this much work.
+    Right(u64),
+    /// It is not right, and counts this much work.
+    Wrong(u64),
+    /// It could not be judged: an allocation failed, its proof is heavy, or the work is past the
+    /// limit.
+    Unknown,
+}
+
+/// A worker's checker, and what it found out.
 #[derive(Drop)]
 pub struct Worker {
     /// The checker of the worker.
     pub checker: Checker,
-    /// The least index of a job that was judged and is not right, `None` if there is none; an error
-    /// if a job could neither be judged nor be put off.
-    pub least: Result<Option<usize>, AllocError>,
-    /// The indexes of the jobs that were put off, because they are heavy or an allocation failed.
-    pub deferred: Vec<usize>,
+    /// What the worker found out about its jobs, one after another. It may have stopped before the
+    /// last of them.
+    pub founds: Vec<Found>,
 }
 
 /// The checker of the calling thread, and those of the workers, which are made when first needed
@@ -62,7 +72,7 @@ impl Checkers {
     pub fn shrink(&mut self) {
         self.calling.shrink();
         for worker in &mut self.workers {
-            worker.deferred = Vec::new(self.alloc);
+            worker.founds = Vec::new(self.alloc);
             worker.checker.shrink();
         }
     }
@@ -83,8 +93,7 @@ impl Checkers {
             checker.set_symbol_limit(MAX_WORKER_SYMBOLS);
             self.workers.push(Worker {
                 checker,
-                least: Ok(None),
-                deferred: Vec::new(self.alloc),
+                founds: Vec::new(self.alloc),
             })?;
         }
         Ok(())

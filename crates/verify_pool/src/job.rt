@@ -2,10 +2,11 @@
 
 ghost use Rattle.std.specs.Prelude.{◌≡◌, IfOk};
 ghost use Rattle.verify.specs.Right.{IsAnswerTo};
-ghost use Rattle.verify_pool.specs.Jobs.{AreJobs, IsJob, IsRightAt, IsRightJob, IsFirstWrongJob};
+ghost use Rattle.verify_pool.specs.Jobs.{AreJobs, IsJob, IsRightJob, IsFirstWrongJob};
 
 use crate::checkers::Checkers;
 use crate::gate::Gate;
+use crate::outcome::Outcome;
 use crate::pool::judge_all;
 use crate::pool_size::PoolSize;
 use crate::work::Work;
@@ -14,7 +15,7 @@ use proof_code::Items;
 use std::alloc::{AllocError, Global};
 use std::marker::Model;
 use std::thread::Threads;
-use verify::{Answer, Checker};
+use verify::{Answer, Checker, Meter};
 
 /// A proof to be checked.
 #[derive(Drop)]
@@ -27,10 +28,9 @@ pub struct Job {
 
 /// Returns the least index, from 0, of a job that is not right; `None` if each is right.
 ///
-/// The jobs are judged as by `judge_all`, with new checkers.
+/// The jobs are judged as by `judge_all`, with new checkers. Nothing is counted.
 ///
 /// Errors and cost: those of `judge_all`.
-#[tactic(auto, using(crate::proofs::LeastLemmas::first_wrong_job))]
 pub fn check_all<G: Gate + Sync, R: Threads + Sync>(
     rt: &R,
     alloc: Global,
@@ -43,7 +43,13 @@ pub fn check_all<G: Gate + Sync, R: Threads + Sync>(
     ensures { IfOk result (λ least. IsFirstWrongJob frames.now.statements jobs.now least) }
 {
     let mut checkers = Checkers::new(alloc);
-    judge_all(rt, &mut checkers, &Jobs { frames, jobs }, workers, gate)
+    let mut meter = Meter::new(None);
+    let jobs = Jobs { frames, jobs };
+    match judge_all(rt, &mut checkers, &jobs, workers, gate, &mut meter)? {
+        Outcome::Wrong(index) => Ok(Some(index)),
+        Outcome::AllRight => Ok(None),
+        Outcome::TooCostly(_) => unreachable!(),
+    }
 }
 
 /// Jobs, with the frames under which they are checked.
@@ -73,11 +79,18 @@ impl<'a> Work for Jobs<'a> {
 
     ghost right = { λ work. IsRightAt work.statements work.jobs };
 
+    ghost work = { λ _ _. 0 };
+
     fn count(&self) -> usize {
         self.jobs.len()
     }
 
-    fn judge(&self, index: usize, checker: &mut Checker) -> Result<Answer, AllocError> {
+    fn judge(
+        &self,
+        index: usize,
+        checker: &mut Checker,
+        _meter: &mut Meter,
+    ) -> Result<Answer, AllocError> {
         check_job(self.frames, &self.jobs[index], checker)
     }
 }

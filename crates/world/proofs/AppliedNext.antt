@@ -16,7 +16,7 @@ entry_next log s t (Some e) at h = sym (ap (λ (i : ℕ). slice_get (entries_of 
 module _ (old : WorldView) (k : ℕ) (node next : NodeLibrary) (result : Result (Option Verdict) StepFault) (is : slice_get old.libraries k ≡ Some node)
     (from : AppliesNext node next (slice_get (log_entries old.history k) node.applied) result) where
   abbrev becomes : WorldView
-  becomes = record { history = old.history; libraries = set old.libraries k next }
+  becomes = record { history = old.history; work_limit = old.work_limit; libraries = set old.libraries k next }
 
   -- the next entry for the library of node k is that of the world
   next_at : slice_get (log_entries old.history k) node.applied ≡ next_entry old k
@@ -28,7 +28,7 @@ module _ (old : WorldView) (k : ℕ) (node next : NodeLibrary) (result : Result 
 
   -- if the library stays the same, the world does
   unmoved : next ≡ node → becomes ≡ old
-  unmoved same = ap (λ (ls : List NodeLibrary). let r : WorldView = record { history = old.history; libraries = ls } in r) (ap (λ (l : NodeLibrary). set old.libraries k l) same ∙ set_same old.libraries k node is)
+  unmoved same = ap (λ (ls : List NodeLibrary). let r : WorldView = record { history = old.history; work_limit = old.work_limit; libraries = ls } in r) (ap (λ (l : NodeLibrary). set old.libraries k l) same ∙ set_same old.libraries k node is)
 
   -- if there is an entry and the call returns a verdict, the entry is applied at node k
   applied_at : (o : Option (Option Entry)) (r : Result (Option Verdict) StepFault) → AppliesNext node next o r → IfSome o (λ entry. IfOk r (λ answer. IsSomeAnd answer (λ verdict. IsApplied old k entry verdict becomes)))
@@ -40,7 +40,7 @@ module _ (old : WorldView) (k : ℕ) (node next : NodeLibrary) (result : Result 
     new_library = next.library;
     old_is = is;
     applies = h.0;
-    becomes = ap (λ (n : ℕ). let r : WorldView = record { history = old.history; libraries = set old.libraries k (record { applied = n; library = next.library }) } in r) h.1;
+    becomes = ap (λ (n : ℕ). let r : WorldView = record { history = old.history; work_limit = old.work_limit; libraries = set old.libraries k (record { applied = n; library = next.library }) } in r) h.1;
   }
 
   -- if there is a next entry and the call returns a verdict, the entry is applied at node k
@@ -59,14 +59,14 @@ module _ (old : WorldView) (k : ℕ) (node next : NodeLibrary) (result : Result 
   call_none missing = none_at (next_entry old k) result applies missing
 
   -- whatever the answer, the library is that of the first entries of the log
-  of_log_at : (o : Option (Option Entry)) → slice_get (log_entries old.history k) node.applied ≡ o → (r : Result (Option Verdict) StepFault) → AppliesNext node next o r → IsOfLog (log_entries old.history k) node
-      → IsOfLog (log_entries old.history k) next
-  of_log_at None at (Ok None) h log = subst (λ (l : NodeLibrary). IsOfLog (log_entries old.history k) l) (sym h) log
+  of_log_at : (o : Option (Option Entry)) → slice_get (log_entries old.history k) node.applied ≡ o → (r : Result (Option Verdict) StepFault) → AppliesNext node next o r → IsOfLog old.work_limit (log_entries old.history k) node
+      → IsOfLog old.work_limit (log_entries old.history k) next
+  of_log_at None at (Ok None) h log = subst (λ (l : NodeLibrary). IsOfLog old.work_limit (log_entries old.history k) l) (sym h) log
   of_log_at None at (Ok (Some verdict)) h log = elim h [ ]
   of_log_at None at (Err fault) h log = elim h [ ]
-  of_log_at (Some entry) at (Err fault) h log = subst (λ (l : NodeLibrary). IsOfLog (log_entries old.history k) l) (sym h.1) log
+  of_log_at (Some entry) at (Err fault) h log = subst (λ (l : NodeLibrary). IsOfLog old.work_limit (log_entries old.history k) l) (sym h.1) log
   of_log_at (Some entry) at (Ok None) h log = elim h [ ]
-  of_log_at (Some entry) at (Ok (Some verdict)) h log = of_log_applied (log_entries old.history k) node entry verdict next log at h.0 h.1
+  of_log_at (Some entry) at (Ok (Some verdict)) h log = of_log_applied old.work_limit (log_entries old.history k) node entry verdict next log at h.0 h.1
 
   -- after the call each library is still that of its log
   pub call_keeps : AreLibrariesOfLogs old → AreLibrariesOfLogs becomes

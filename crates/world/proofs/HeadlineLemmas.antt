@@ -14,31 +14,31 @@ takes_agree : {A : Type 0} (m n : ℕ) (xs ys : List A) → Agree xs ys → Agre
 takes_agree m n xs ys (inl h) = beginnings_agree (take m xs) (take n ys) ys (then_begins (take m xs) xs ys (take_begins m xs) h) (take_begins n ys)
 takes_agree m n xs ys (inr h) = beginnings_agree (take m xs) (take n ys) xs (take_begins m xs) (then_begins (take n ys) ys xs (take_begins n ys) h)
 
--- if two logs agree, the statements of their libraries do
-statements_agree : (xs ys : List (Option Entry)) (one other : ReplicaState) → Agree xs ys → IsLibraryOf xs one → IsLibraryOf ys other → Agree one.statements other.statements
-statements_agree xs ys one other (inl h) p q =
-    let more = library-begins xs h.0 one other p (subst (λ (es : List (Option Entry)). IsLibraryOf es other) (sym h.1) q) in inl (more.0, sym more.1)
-statements_agree xs ys one other (inr h) p q =
-    let more = library-begins ys h.0 other one q (subst (λ (es : List (Option Entry)). IsLibraryOf es one) (sym h.1) p) in inr (more.0, sym more.1)
+-- if two logs agree, the statements of their libraries under one limit do
+statements_agree : (limit : Option ℕ) (xs ys : List (Option Entry)) (one other : ReplicaState) → Agree xs ys → IsLibraryOf limit xs one → IsLibraryOf limit ys other → Agree one.statements other.statements
+statements_agree limit xs ys one other (inl h) p q =
+    let more = library-begins limit xs h.0 one other p (subst (λ (es : List (Option Entry)). IsLibraryOf limit es other) (sym h.1) q) in inl (more.0, sym more.1)
+statements_agree limit xs ys one other (inr h) p q =
+    let more = library-begins limit ys h.0 other one q (subst (λ (es : List (Option Entry)). IsLibraryOf limit es one) (sym h.1) p) in inr (more.0, sym more.1)
 
 -- the headline holds of a history for which agreement holds
-pub headline_of : (history : History Carried) → Agreement carried_size history → Headline history
-headline_of history agreement = record {
+pub headline_of : (limit : Option ℕ) (history : History Carried) → Agreement carried_size history → Headline limit history
+headline_of limit history agreement = record {
   agreement = agreement;
   libraries_agree = λ one other p q.
       let xs = entries_of (log p.world p.node) in
       let ys = entries_of (log q.world q.node) in
-      statements_agree (take p.count xs) (take q.count ys) one other
+      statements_agree limit (take p.count xs) (take q.count ys) one other
       (takes_agree p.count q.count xs ys (entries_agree (log p.world p.node) (log q.world q.node) (agreement.logs_agree p.world q.world p.moment q.moment p.node q.node))) p.of_log q.of_log;
-  libraries_good = λ library p. library-good (take p.count (entries_of (log p.world p.node))) library p.of_log;
+  libraries_good = λ library p. library-good limit (take p.count (entries_of (log p.world p.node))) library p.of_log;
   derived = λ library p at stmt provable.
-      let proved = (library-good (take p.count (entries_of (log p.world p.node))) library p.of_log).proved at stmt provable in
+      let proved = (library-good limit (take p.count (entries_of (log p.world p.node))) library p.of_log).proved at stmt provable in
       record { stmt = proved.right.1.stmt; derivation = proved.right.0; stands = proved.right.1.stands; concludes = proved.right.1.concludes };
 }
 
 -- the headline holds of each history that is taken
 pub headline_holds : HeadlineHolds
-headline_holds history is = from_world (world_of carried_size history) refl is where
-  from_world : (r : Result (World Carried) StepFault) → world_of carried_size history ≡ r → IsOk r → Headline history
-  from_world (Ok w) after ok = headline_of history (agreement_of carried_size history w after)
+headline_holds limit history is = from_world (world_of carried_size history) refl is where
+  from_world : (r : Result (World Carried) StepFault) → world_of carried_size history ≡ r → IsOk r → Headline limit history
+  from_world (Ok w) after ok = headline_of limit history (agreement_of carried_size history w after)
   from_world (Err fault) after ok = let no : false ≡ true = ok in cc

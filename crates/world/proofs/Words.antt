@@ -1,9 +1,11 @@
 -- The names used in the proofs of this crate, with lemmas of std and of the layers below,
 -- re-exported from one place.
 pub use Rattle.library.proofs.LibraryLemmas.{library-begins, library-good, library-more}
-pub use Rattle.library.specs.LibraryOf.{Applies, IsLibraryOf, ReplicaState}
+pub use Rattle.library.specs.LibraryOf.{Applies, AppliesAt, Decides, IsLibraryOf, ReplicaState, status_of}
 pub use Rattle.library.specs.declared.entry.Entry.{Entry}
+pub use Rattle.library.specs.declared.entry.Entry.TheVariants.{Charter, Text}
 pub use Rattle.library.specs.declared.verdict.Verdict.{Verdict}
+pub use Rattle.library.specs.declared.verdict.Verdict.TheVariants.{Added, Nothing, Refused, Repeat}
 pub use Rattle.net.proofs.Beginnings.{beginnings_agree, then_begins}
 pub use Rattle.net.proofs.EveryEvent.{if_taken}
 pub use Rattle.net.proofs.GrowingLists.{at_set_other}

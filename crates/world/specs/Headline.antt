@@ -1,21 +1,21 @@
--- The headline theorem: the logs agree; of any two nodes' libraries, at any two moments, the
--- statements of one are a prefix of the other's; the statements of each library are good; and each
--- of its provable assertions has a derivation.
+-- The headline theorem: the logs agree; of any two nodes' libraries, at any two moments, under one
+-- limit on work or none, the statements of one are a prefix of the other's; the statements of each
+-- library are good; and each of its provable assertions has a derivation.
 -- Source: Lamport, Paxos Made Simple, section 3; Megill and Wheeler, Metamath, 2nd ed. 2019, 4.2.
 -- No code computes this; it follows from agreement and from the definition of the library of a log.
-use Rattle.std.specs.Prelude.{◌≡◌, ℕ, Some, IsOk, take}
+use Rattle.std.specs.Prelude.{◌≡◌, ℕ, Option, Some, IsOk, take}
 use Rattle.world.specs.Words.{Stmt, Database, bares, stmt_at, expr_of, Derivation, Concludes, IsProvable, ReplicaState, IsLibraryOf, Good, World, log, Agree, History, world_of, IsMoment, Agreement}
 use Rattle.world.specs.declared.carried.Carried.{Carried}
 use Rattle.world.specs.Carried.{carried_size, entries_of}
 
--- a library of the history: that of some number of first entries of a node's log, in the world of
--- `net` at some moment
-pub record IsLibraryIn (history : History Carried) (library : ReplicaState) : Type 0 where
+-- a library of the history under the limit on work: that of some number of first entries of a
+-- node's log, in the world of `net` at some moment
+pub record IsLibraryIn (limit : Option ℕ) (history : History Carried) (library : ReplicaState) : Type 0 where
   pub world : World Carried
   pub moment : IsMoment carried_size history world
   pub node : ℕ
   pub count : ℕ
-  pub of_log : IsLibraryOf (take count (entries_of (log world node))) library
+  pub of_log : IsLibraryOf limit (take count (entries_of (log world node))) library
 
 -- the expression of the assertion at that position has a derivation from the hypotheses active
 -- there; each of its steps is an instance of an earlier assertion, by a substitution that meets the
@@ -26,15 +26,15 @@ pub record HasDerivation (S : Database) (at : ℕ) : Type 0 where
   pub stands : stmt_at (bares S) at ≡ Some stmt
   pub concludes : Concludes (bares S) at derivation (expr_of stmt)
 
-pub record Headline (history : History Carried) : Type 0 where
+pub record Headline (limit : Option ℕ) (history : History Carried) : Type 0 where
   -- agreement on the logs
   pub agreement : Agreement carried_size history
   -- the statements of one of any two libraries of the history are a prefix of the other's
-  pub libraries_agree : (one other : ReplicaState) → IsLibraryIn history one → IsLibraryIn history other → Agree one.statements other.statements
+  pub libraries_agree : (one other : ReplicaState) → IsLibraryIn limit history one → IsLibraryIn limit history other → Agree one.statements other.statements
   -- the statements of each of them are good, and each of its provable assertions has a derivation
-  pub libraries_good : (library : ReplicaState) → IsLibraryIn history library → Good library.statements
-  pub derived : (library : ReplicaState) → IsLibraryIn history library → (at : ℕ) (stmt : Stmt) → IsProvable library.statements at stmt → HasDerivation library.statements at
+  pub libraries_good : (library : ReplicaState) → IsLibraryIn limit history library → Good library.statements
+  pub derived : (library : ReplicaState) → IsLibraryIn limit history library → (at : ℕ) (stmt : Stmt) → IsProvable library.statements at stmt → HasDerivation library.statements at
 
--- the headline holds of every history in which no event meets a fault
+-- the headline holds of every history in which no event meets a fault, under every limit on work
 abbrev pub HeadlineHolds : Type 0
-HeadlineHolds = (history : History Carried) → IsOk (world_of carried_size history) → Headline history
+HeadlineHolds = (limit : Option ℕ) (history : History Carried) → IsOk (world_of carried_size history) → Headline limit history

@@ -29,21 +29,24 @@ impl Model for NodeLibrary {
 }
 
 impl NodeLibrary {
-    /// Creates the empty library of a new node. Does not allocate.
-    pub fn new(alloc: Global) -> Self
-        ensures { result ≡ new_node_library }
+    /// Creates the empty library of a new node; `work_limit` is the greatest work that an entry may
+    /// count, if there is a limit. Does not allocate.
+    pub fn new(alloc: Global, work_limit: Option<u64>) -> Self
+        ensures { result ≡ new_node_library work_limit }
     {
         NodeLibrary {
-            library: Library::new(alloc),
+            library: Library::new(alloc, work_limit),
             applied: 0,
         }
     }
 
-    /// Discards the library, and starts again with that of a new node. Does not allocate.
+    /// Discards the library, and starts again with that of a new node with the same limit on work.
+    /// Does not allocate.
     pub fn reset(&mut self, alloc: Global)
-        ensures { self.new ≡ new_node_library }
+        ensures { self.new ≡ new_node_library self.old.library.limit }
     {
-        let _old = mem::replace(self, NodeLibrary::new(alloc));
+        let new = NodeLibrary::new(alloc, self.library.limit());
+        let _old = mem::replace(self, new);
     }
 
     /// Returns the number of entries applied, which is the slot of the next one.
@@ -117,28 +120,34 @@ fn library_entry(value: &Option<Carried>) -> Option<&Entry>
     }
 }
 
-/// Creates an empty library for each of `nodes` nodes.
-pub(crate) fn new_libraries(alloc: Global, nodes: u8) -> Result<Vec<NodeLibrary>, AllocError>
-    ensures { IfOk result (λ libraries. libraries.items ≡ replicate nodes new_node_library) }
+/// Creates an empty library with this limit on work for each of `nodes` nodes.
+pub(crate) fn new_libraries(
+    alloc: Global,
+    work_limit: Option<u64>,
+    nodes: u8,
+) -> Result<Vec<NodeLibrary>, AllocError>
+    ensures { IfOk result (λ libraries. libraries.items ≡ replicate nodes (new_node_library work_limit)) }
 {
     let mut libraries = Vec::with_capacity(alloc, nodes as usize)?;
     for _node in 0..nodes {
-        libraries.push(NodeLibrary::new(alloc))?;
+        libraries.push(NodeLibrary::new(alloc, work_limit))?;
     }
     Ok(libraries)
 }
 
-/// Discards the library of the node that restarts, if one does.
+/// Replaces the library of the node that restarts, if one does, by an empty one with this limit on
+/// work.
 pub(crate) fn reset_library(
     alloc: Global,
+    work_limit: Option<u64>,
     libraries: &mut Vec<NodeLibrary>,
     restarted_node: Option<u8>,
 )
-    ensures { libraries.new.items ≡ with_library_reset libraries.old.items restarted_node }
+    ensures { libraries.new.items ≡ with_library_reset work_limit libraries.old.items restarted_node }
 {
     if let Some(k) = restarted_node {
         if let Some(node_library) = libraries.get_mut(k as usize) {
-            node_library.reset(alloc);
+            let _old = mem::replace(node_library, NodeLibrary::new(alloc, work_limit));
         }
     }
 }

@@ -12,7 +12,8 @@ use std::alloc::Global;
 use synod::Weights;
 
 /// Takes all events, starting with new nodes, and returns the world after them, which takes at most
-/// `event_limit` events. No entry is applied yet: its libraries are empty.
+/// `event_limit` events and whose libraries have the limit on work. No entry is applied yet: its
+/// libraries are empty.
 ///
 /// Errors: the index from 0 of the first event that is refused, with its fault, or with `Memory` if
 /// it meets none. The index is 0 if creating the new nodes runs out of memory. Cost: that of the
@@ -21,17 +22,22 @@ pub fn run(
     alloc: Global,
     weights: Weights,
     event_limit: u64,
+    work_limit: Option<u64>,
     events: Vec<Event<Entry>>,
 ) -> Result<World, (usize, StepFault)>
     ensures taken { IfOk result
         (λ world. world
-        ≡ record { history = record { weights = weights; event_limit = event_limit; events = value_events events.items }; libraries = new_node_libraries weights }) }
+        ≡ record {
+          history = record { weights = weights; event_limit = event_limit; events = value_events events.items };
+          work_limit = work_limit;
+          libraries = new_node_libraries work_limit weights;
+        }) }
     ensures headline { OnOk result
-        (Headline (record { weights = weights; event_limit = event_limit; events = value_events events.items })) }
+        (Headline work_limit (record { weights = weights; event_limit = event_limit; events = value_events events.items })) }
     ensures stops { IfErr result
         (λ stop. RunStopsAt carried_size weights event_limit (value_events events.items) stop.0 stop.1) }
 {
-    let mut world = match World::new(alloc, weights, event_limit) {
+    let mut world = match World::new(alloc, weights, event_limit, work_limit) {
         Ok(world) => world,
         Err(fault) => return Err((0, fault)),
     };

@@ -17,7 +17,7 @@ use std::marker::Model;
 use synod::{NodeState, Packet, Weights};
 
 /// A world of nodes and their libraries. Contracts see the weights, the limit on events, the events
-/// taken, and each node's library with the count of entries applied.
+/// taken, the limit on work, and each node's library with the count of entries applied.
 ///
 /// Source: Lamport, Paxos Made Simple, 2 and 3; the world after a list of events is in
 /// `net/specs/World.antt`, what contracts see of it in `specs/WorldView.antt`.
@@ -25,6 +25,7 @@ use synod::{NodeState, Packet, Weights};
 pub struct World {
     alloc: Global,
     net: Net<Carried>,
+    work_limit: Option<u64>,
     libraries: Vec<NodeLibrary>,
 }
 
@@ -33,9 +34,10 @@ impl Model for World {
 
     ghost Value = { WorldView };
 
-    ghost view = { λ w. record { history = w.net.history; libraries = w.libraries.items } };
+    ghost view = { λ w. record { history = w.net.history; work_limit = w.work_limit; libraries = w.libraries.items } };
 
-    ghost invariant = { λ w. AreLibrariesOfLogs (record { history = w.net.history; libraries = w.libraries.items }) };
+    ghost invariant = { λ w. AreLibrariesOfLogs
+        (record { history = w.net.history; work_limit = w.work_limit; libraries = w.libraries.items }) };
 }
 
 impl World {
@@ -44,17 +46,23 @@ impl World {
     ghost use Rattle.world.specs.Headline.{Headline};
 
     /// Creates a world of new nodes, each with an empty library. It takes at most `event_limit`
-    /// events.
+    /// events; `work_limit` is the greatest work that an entry may count, if there is a limit.
     ///
     /// Errors: `Memory`. Cost: a constant for each node.
-    pub fn new(alloc: Global, weights: Weights, event_limit: u64) -> Result<Self, StepFault>
-        ensures new { IfOk result (λ world. world ≡ new_world weights event_limit) }
+    pub fn new(
+        alloc: Global,
+        weights: Weights,
+        event_limit: u64,
+        work_limit: Option<u64>,
+    ) -> Result<Self, StepFault>
+        ensures new { IfOk result (λ world. world ≡ new_world weights event_limit work_limit) }
         ensures only_memory { IsOkUnless result Memory }
     {
         Ok(World {
             alloc,
             net: Net::new(alloc, weights, event_limit)?,
-            libraries: new_libraries(alloc, weights.count())?,
+            work_limit,
+            libraries: new_libraries(alloc, work_limit, weights.count())?,
         })
     }
 
@@ -79,7 +87,12 @@ impl World {
         let event = to_value_event(event);
         let restarted_node = restarted_node(&event);
         let posted = self.net.step(event)?;
-        reset_library(self.alloc, &mut self.libraries, restarted_node);
+        reset_library(
+            self.alloc,
+            self.work_limit,
+            &mut self.libraries,
+            restarted_node,
+        );
         Ok(posted)
     }
 
@@ -105,7 +118,7 @@ impl World {
     }
 
     /// Returns the library of node `k`: that of the first entries of its log, as many as were
-    /// applied. Does not allocate.
+    /// applied, under the limit on work. Does not allocate.
     ///
     /// Errors: `NoNode`.
     pub fn library(&self, k: u8) -> Result<&Library, StepFault>
@@ -127,7 +140,7 @@ impl World {
     pub fn history(&self) -> &[Event<Carried>]
         ensures events { result.now ≡ self.now.history.events }
         ensures few { length self.now.history.events ≤ self.now.history.event_limit }
-        ensures headline { Headline self.now.history }
+        ensures headline { Headline self.now.work_limit self.now.history }
     {
         self.net.history()
     }

@@ -49,17 +49,18 @@ abbrev pub numbers_of : Bool → AssertionParts → List ℕ
 numbers_of true p = ((((counts_of p ++ p.typecodes.now) ++ p.numbered_hypotheses.now) ++ p.symbols.now) ++ p.hypotheses.now) ++ p.grouped_variables.now
 numbers_of false p = p.symbols.now
 
-abbrev pub record_by : Kind → Bool → Bool → ℕ → ℕ → StatementRecord
-record_by kind has_parts whole from groups = record { from = from; groups_from = groups; kind = kind; has_parts = has_parts; whole = whole }
+abbrev pub record_by : Kind → ℕ → Bool → Bool → ℕ → ℕ → StatementRecord
+record_by kind size has_parts whole from groups = record { size = size; from = from; groups_from = groups; kind = kind; has_parts = has_parts; whole = whole }
 
 -- the record of a statement with this header and these parts; its numbers begin at `from`, its
 -- groups at `groups`
 abbrev pub record_of : EntryHeader → AssertionParts → ℕ → ℕ → StatementRecord
-record_of h p from groups = record_by h.kind (has_parts p) p.whole from groups
+record_of h p from groups = record_by h.kind h.size (has_parts p) p.whole from groups
 
 -- a statement without the state before it
 pub record Body : Type 0 where
   pub kind : Kind
+  pub size : ℕ
   pub symbols : List ℕ
   pub assertion : Assertion
 
@@ -67,6 +68,7 @@ pub record Body : Type 0 where
 abbrev pub body_by : StatementRecord → List ℕ → List BufferPart → Layout → Body
 body_by r numbers spans layout = record {
   kind = r.kind;
+  size = r.size;
   symbols = slice_range numbers layout.symbols layout.hypotheses;
   assertion = record {
     whole = r.whole;
@@ -81,7 +83,7 @@ abbrev pub body_of : StatementRecord → List ℕ → List BufferPart → Body
 body_of r numbers spans = body_by r numbers spans (layout_in r.has_parts numbers)
 
 abbrev pub with_state_before : Body → StateBefore → Entry
-with_state_before b k = record { kind = b.kind; label_count = k.label_count; symbol_count = k.symbol_count; last_active = k.last_active; symbols = b.symbols; assertion = b.assertion }
+with_state_before b k = record { kind = b.kind; size = b.size; label_count = k.label_count; symbol_count = k.symbol_count; last_active = k.last_active; symbols = b.symbols; assertion = b.assertion }
 
 -- ---- all statements
 

@@ -4,7 +4,7 @@
 use Rattle.std.specs.Prelude.{◌≡◌, ℕ, ◌+◌, ◌-◌, ◌≤◌, ◌==◌, ◌⊎◌, Bool, true, false, List, [], ◌∷◌, length, map, slice_get, Option, Some, None}
 use Rattle.frame.specs.Words.{Database, is_active, is_essential, Kind, Float, Ess, Entry, Assertion, list_any}
 use Rattle.frame.specs.Ascending.{Ascends}
-use Rattle.frame.specs.LastActive.{actives, is_disj}
+use Rattle.frame.specs.LastActive.{actives}
 use Rattle.frame.specs.Stored.EntryMeanings.{is_float_with, last_where}
 use Rattle.frame.specs.MandatoryPairs.{AreReordered}
 use Rattle.frame.specs.Stored.AssertionParts.{stored_pairs, typecode_at, hypothesis_at}

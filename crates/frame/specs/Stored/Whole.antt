@@ -10,6 +10,7 @@ use Rattle.frame.specs.Stored.Naming.{naming_of}
 use Rattle.frame.specs.Stored.AssertionParts.{IsKeptAs, has_parts}
 use Rattle.frame.specs.Stored.Ends.{AreEnds}
 use Rattle.frame.specs.Stored.MentionLists.{IsTableOf}
+use Rattle.frame.specs.Stored.EntrySizes.{IsSizeOf}
 
 -- the lists of a storage are those of its statements
 pub record AreKept (names labels : List Name) (positions : List ℕ) (floats replaced : List ℕ) (entries : List Entry) (last_active : LastActive) : Type 0 where
@@ -28,6 +29,7 @@ pub record AreKept (names labels : List Name) (positions : List ℕ) (floats rep
   pub few : length names < 2 ^ 31
   pub parts_kept : (i : ℕ) (e : Entry) → slice_get entries i ≡ Some e → has_parts e.kind ≡ true
       → IsKeptAs entries (take i (map (stmt_of names labels) entries)) (stmt_of names labels e) e.assertion
+  pub sizes_kept : (i : ℕ) (e : Entry) → slice_get entries i ≡ Some e → IsSizeOf (take i (map (stmt_of names labels) entries)) (stmt_of names labels e) e.size
 
 -- the storage is that of its statements, with the tables of the `$d` and `$v`
 pub record AreStored (k : Storage) : Type 0 where
@@ -43,6 +45,7 @@ pub record IsEntryHeader (k : Storage) (s : Stmt) (h : EntryHeader) : Type 0 whe
   pub label : h.before.label_count ≡ length (labels_in k)
   pub names : h.before.symbol_count ≡ length (names_in k)
   pub last_active : h.before.last_active ≡ k.last_active
+  pub size : IsSizeOf (statements_of k) s h.size
 
 -- the parts are kept as those of the next statement s
 abbrev pub IsKeptOf : Storage → Stmt → Assertion → Type 0

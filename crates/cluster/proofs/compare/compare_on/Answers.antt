@@ -6,7 +6,7 @@ pub ahead_of-requires : goal.ahead_of-requires
 ahead_of-requires g c =
     subst (λ (ss : Database). Agree c.library.result.now.replica.statements ss) (ap (λ (r : ReplicaState). r.statements) (sym c.library-2.ensures.library))
     (subst (λ (ss : Database). Agree ss c.args.other.now.node_library.library.statements) (ap (λ (r : ReplicaState). r.statements) (sym c.library.ensures.library))
-    (cells_agree c.args.one.now c.args.other.now c.args.switch.now c.entry.ensures.history_taken c.requires.one c.requires.other c.library.ensures.of_entries c.library-2.ensures.of_entries))
+    (cells_agree c.args.one.now c.args.other.now c.args.switch.now c.entry.ensures.history_taken c.requires.one c.requires.other c.requires.limit c.library.ensures.of_entries c.library-2.ensures.of_entries))
 
 pub returns : goal.returns
 returns g c =

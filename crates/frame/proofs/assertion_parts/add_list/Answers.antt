@@ -1,4 +1,4 @@
-use Rattle.frame.proofs.Words.{◌≡◌, ◌∙◌, ◌++◌, ap, sym, subst, arith, length, length-append, cut, AreSpansIn, with_list}
+use Rattle.frame.proofs.Words.{◌≡◌, ◌∙◌, ap, sym, subst, arith, length, length-append, cut, AreSpansIn, with_list}
 use Rattle.frame.proofs.MakeLemmas.{group-added, spans-more}
 use Rattle.frame.proofs.assertion_parts.add_list.Goals as goal
 use Rattle.frame.proofs.assertion_parts.add_list.Goals.{In_ok-push}

@@ -1,10 +1,13 @@
 use Rattle.frame.proofs.Words.{◌≡◌, map, false, hypothesis_at, typecode_at, kept_with, ◌∙◌, ◌+◌, ◌-◌, ap, sym, subst, arith, refl, length, take, take_all, length-map, false≢true, ℕ, List, Option, decode, with_names, bare, expr_of, AreRecorded, symbols_declared_by, symbols_in, AreBelow, floats_in, has_parts, names_in, labels_in, statements_of, stmt_of, AreFloats, AreCollected, AreHypotheses, hypotheses, IsFilledFrom}
-use Rattle.frame.proofs.AssertionLemmas.{hypotheses-are, floats-are, ok-both, filled-kept, parts-for}
+use Rattle.frame.proofs.AssertionLemmas.{hypotheses-are, floats-are, filled-kept, parts-for}
 use Rattle.frame.proofs.CollectLemmas.{collected-from}
 use Rattle.frame.proofs.CollectedLemmas.{collected-hypotheses, found-floats}
 use Rattle.frame.proofs.DeclaredSymbolLemmas.{stored-distinct}
 use Rattle.frame.proofs.EnterLemmas.{essentials-kept, essential-bare, kind_of-bare, next-bare}
 use Rattle.frame.proofs.assertion_parts.fill_parts.Goals as goal
+use Rattle.std.specs.List.{sum_by}
+use Rattle.frame.specs.Stored.EntrySizes.{IsSizeOf, listed_size}
+use Rattle.frame.proofs.SizeLemmas.{size-is}
 use Rattle.frame.proofs.assertion_parts.fill_parts.Goals.{In-Some}
 
 found : (c : In-Some) → AreBelow (length (names_in c.args.storage.now)) c.in-Some.codes.now × (decode (names_in c.args.storage.now) c.in-Some.codes.now ≡ expr_of (bare c.args.stmt.now))
@@ -35,20 +38,31 @@ encode_hypotheses-requires-clause-hypotheses c =
     let k = c.args.storage.now in
     subst (AreHypotheses k.entries) (sym (c.deref.ensures.value ∙ own w c.find_floats.new.list.items c.in_ok-find_floats.ensures)) (floats-are (names_in k) (labels_in k) k.entries (decode (names_in k) c.in-Some.codes.now))
 
-pub returns-then-is_essential : goal.returns-then-is_essential
-returns-then-is_essential c =
-    let w = (goal.at.returns-then-is_essential c).In-Some in
+pub returns-then-is_essential-clause-parts : goal.returns-then-is_essential-clause-parts
+returns-then-is_essential-clause-parts c =
+    let w = (goal.at.returns-then-is_essential-clause-parts c).In-Some in
     let k = c.args.storage.now in
     let s = bare c.args.stmt.now in
     let list = c.find_floats.new.list.items in
     let partial : c.buffers.inside.whole ≡ false = ap (λ v. v.whole) (c.buffers.view_is ∙ c.clear.ensures) in
-    ok-both c.encode_hypotheses.result (λ numbered_hypotheses typecodes. parts-for k s _ (record {
+    parts-for k s _ (record {
       hypotheses_kept = own w list c.in_ok-find_floats.ensures ∙ (ap (floats_in (statements_of k)) (found w).1 ∙ ap (λ b. kept_with b (statements_of k) s) (sym partial));
-      numbered_kept = numbered_hypotheses ∙ ap (map (hypothesis_at k.entries)) c.deref.ensures.value;
-      typecodes_kept = typecodes ∙ ap (map (typecode_at k.entries)) c.deref.ensures.value;
+      numbered_kept = c.in_ok-encode_hypotheses.ensures.numbered_hypotheses ∙ ap (map (hypothesis_at k.entries)) c.deref.ensures.value;
+      typecodes_kept = c.in_ok-encode_hypotheses.ensures.typecodes ∙ ap (map (typecode_at k.entries)) c.deref.ensures.value;
       pairs_kept = λ whole. absurd (false≢true (sym partial ∙ whole));
       own_kept = λ e. partial;
-    })) c.encode_hypotheses.ensures.numbered_hypotheses c.encode_hypotheses.ensures.typecodes
+    })
+
+pub size_of_assertion-requires-clause-hypotheses : goal.size_of_assertion-requires-clause-hypotheses
+size_of_assertion-requires-clause-hypotheses c =
+    let w = (goal.at.size_of_assertion-requires-clause-hypotheses c).In-Some in
+    let k = c.args.storage.now in
+    let S = statements_of k in
+    let n = length-map k.entries (stmt_of (names_in k) (labels_in k)) in
+    let list = c.add_essentials.new.list.items in
+    let before = take_all (c.len-at.result + 1 - 1) S (omega (arith, n, c.len-at.ensures.len)) in
+    subst (AreHypotheses k.entries) (sym (c.deref-2.ensures.value ∙ all w list (collected-from k.entries S (take (c.len-at.result + 1 - 1) S) c.in-Some.codes.now c.find_floats.new.list.items list before c.in_ok-find_floats.ensures c.in_ok-add_essentials.ensures)))
+    (hypotheses-are (names_in k) (labels_in k) k.entries (bare c.args.stmt.now))
 
 pub fill_whole-requires-clause-hypotheses : goal.fill_whole-requires-clause-hypotheses
 fill_whole-requires-clause-hypotheses c =
@@ -61,9 +75,9 @@ fill_whole-requires-clause-hypotheses c =
     subst (AreHypotheses k.entries) (sym (all w list (collected-from k.entries S (take (c.len-at.result + 1 - 1) S) c.in-Some.codes.now c.find_floats.new.list.items list before c.in_ok-find_floats.ensures c.in_ok-add_essentials.ensures)))
     (hypotheses-are (names_in k) (labels_in k) k.entries (bare c.args.stmt.now))
 
-pub returns-then-branch : goal.returns-then-branch
-returns-then-branch c =
-    let w = (goal.at.returns-then-branch c).In-Some in
+pub returns-then-branch-clause-parts : goal.returns-then-branch-clause-parts
+returns-then-branch-clause-parts c =
+    let w = (goal.at.returns-then-branch-clause-parts c).In-Some in
     let k = c.args.storage.now in
     let S = statements_of k in
     let s = bare c.args.stmt.now in
@@ -77,5 +91,36 @@ returns-then-branch c =
 pub fill_own-requires-clause-codes : goal.fill_own-requires-clause-codes
 fill_own-requires-clause-codes c = (found (goal.at.fill_own-requires-clause-codes c).In-Some).0
 
-pub returns : goal.returns
-returns c = c.fill_own.ensures (bare c.args.stmt.now) (found (goal.at.returns c).In-Some).1
+pub returns-clause-parts : goal.returns-clause-parts
+returns-clause-parts c = c.in_ok-fill_own.ensures (bare c.args.stmt.now) (found (goal.at.returns-clause-parts c).In-Some).1
+
+-- the size that was counted, where these hypotheses were collected
+sized : (c : In-Some) (size place : ℕ) (list : List ℕ) → take place (statements_of c.args.storage.now) ≡ statements_of c.args.storage.now → AreCollected c.args.storage.now.entries (statements_of c.args.storage.now) c.in-Some.codes.now list
+    → size ≡ length list + length c.in-Some.codes.now + sum_by (listed_size c.args.storage.now (take place (statements_of c.args.storage.now))) list → IsSizeOf (statements_of c.args.storage.now) (bare c.args.stmt.now) size
+sized c size place list before collected counted =
+    let k = c.args.storage.now in let s = bare c.args.stmt.now in
+    subst (λ T. IsSizeOf T s size) before (record {
+      is = λ asserts. size-is k c.requires.stored (stored-distinct k c.requires.stored) place s size c.in-Some.codes.now list (all c list collected ∙ ap (λ T. hypotheses T s) (sym before)) (found c).1 counted;
+    })
+
+pub returns-then-branch-clause-size : goal.returns-then-branch-clause-size
+returns-then-branch-clause-size c =
+    let k = c.args.storage.now in
+    let S = statements_of k in
+    let n = length-map k.entries (stmt_of (names_in k) (labels_in k)) in
+    let list = c.add_essentials.new.list.items in
+    let place = c.len-at.result + 1 - 1 in
+    let before = take_all place S (omega (arith, n, c.len-at.ensures.len)) in
+    sized (goal.at.returns-then-branch-clause-size c).In-Some c.in_ok-size.size place list before (collected-from k.entries S (take place S) c.in-Some.codes.now c.find_floats.new.list.items list before c.in_ok-find_floats.ensures c.in_ok-add_essentials.ensures)
+    (c.in_ok-size.ensures ∙ ap (λ hs. length hs + length c.in-Some.codes.now + sum_by (listed_size k (take place S)) hs) c.deref-2.ensures.value)
+
+pub returns-clause-size : goal.returns-clause-size
+returns-clause-size c =
+    let k = c.args.storage.now in
+    let S = statements_of k in
+    let n = length-map k.entries (stmt_of (names_in k) (labels_in k)) in
+    let list = c.add_essentials.new.list.items in
+    let place = c.len-at.result + 1 - 1 in
+    let before = take_all place S (omega (arith, n, c.len-at.ensures.len)) in
+    sized (goal.at.returns-clause-size c).In-Some c.in_ok-size.size place list before (collected-from k.entries S (take place S) c.in-Some.codes.now c.find_floats.new.list.items list before c.in_ok-find_floats.ensures c.in_ok-add_essentials.ensures)
+    (c.in_ok-size.ensures ∙ ap (λ hs. length hs + length c.in-Some.codes.now + sum_by (listed_size k (take place S)) hs) c.deref-2.ensures.value)

@@ -1,4 +1,4 @@
-use Rattle.frame.proofs.Words.{◌≡◌, ◌∙◌, ◌-◌, ◌<◌, ap, sym, subst, arith, map, length, take, decoded_hypothesis, hypothesis_at, typecode_at, names_in, labels_in, statements_of, AreHypotheses, AreBelow, AreReordered, float_variables, is_numbered_pair, pairs_by, cut}
+use Rattle.frame.proofs.Words.{◌≡◌, ◌∙◌, ◌-◌, ap, sym, subst, map, length, take, decoded_hypothesis, hypothesis_at, typecode_at, names_in, labels_in, statements_of, AreHypotheses, AreBelow, AreReordered, float_variables, is_numbered_pair, pairs_by, cut}
 use Rattle.frame.proofs.DeclaredSymbolLemmas.{stored-distinct}
 use Rattle.frame.proofs.MakeLemmas.{floats-below}
 use Rattle.frame.proofs.AssertionViewLemmas.{stored-pairs}

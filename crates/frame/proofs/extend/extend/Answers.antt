@@ -12,13 +12,13 @@ declare_next-requires-clause-free c =
     may-declare (statements_of k) c.args.stmt.now k.numbering c.requires.legal (stored-naming k c.requires.stored).kinds_match
 
 abbrev header : In-Some → EntryHeader
-header c = record { kind = c.kind-kind.result; before = record { label_count = c.in_ok-to_u32.field-0; symbol_count = c.symbol_count.result; last_active = c.args.storage.now.last_active } }
+header c = record { kind = c.kind-kind.result; size = c.in_ok-size.size; before = record { label_count = c.in_ok-to_u32.field-0; symbol_count = c.symbol_count.result; last_active = c.args.storage.now.last_active } }
 
 entered : (c : In-Some) → IsEntered c.args.storage.now c.declare_next.new.storage c.args.stmt.now (header c) c.find_numbers.new.recorded c.declare_next.new.recorded
 entered c = record {
   stored = c.requires.stored;
   legal = c.requires.legal;
-  header = record { kind = c.kind-kind.ensures; label = c.in_ok-to_u32.ensures ∙ c.label_count.ensures; names = c.symbol_count.ensures; last_active = refl };
+  header = record { kind = c.kind-kind.ensures; label = c.in_ok-to_u32.ensures ∙ c.label_count.ensures; names = c.symbol_count.ensures; last_active = refl; size = c.in_ok-size.ensures.size };
   declared = c.in_ok-declare_next.ensures.numbering;
   recorded = c.find_numbers.ensures;
   recorded_after = c.in_ok-declare_next.ensures.recorded;
@@ -77,7 +77,7 @@ returns c =
     let told = c.in_ok-declare_next.ensures in
     let e = entered (goal.at.returns c).In-Some in
     let a = c.fill_parts.new.buffers in
-    let kept : has_parts h.kind ≡ true → IsKeptOf k s a = λ own. c.in_ok-fill_parts.ensures.kept (ap has_parts (sym e.header.kind) ∙ own) in
+    let kept : has_parts h.kind ≡ true → IsKeptOf k s a = λ own. c.in_ok-size.ensures.parts.kept (ap has_parts (sym e.header.kind) ∙ own) in
     let extended : IsExtended k new c.args.stmt.now h a codes c.kind-kind.result (c.len.result + 1) c.declare.new.floats.items c.record_replaced.new.replaced.items c.push-2.new.self c.last_active_after-last_active.result = record {
       grown = told.grown;
       room = told.room;

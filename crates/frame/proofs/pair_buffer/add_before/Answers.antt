@@ -1,4 +1,4 @@
-use Rattle.frame.proofs.Words.{◌≡◌, ◌+◌, ℕ, List, Bool, cond, take, get_or, sym, ◌∙◌, ap, subst, has_number, with_number, AddsBefore}
+use Rattle.frame.proofs.Words.{◌+◌, ℕ, List, Bool, cond, take, get_or, sym, ◌∙◌, ap, subst, with_number, AddsBefore}
 use Rattle.frame.proofs.PairListLemmas.{adds-more}
 use Rattle.frame.proofs.pair_buffer.add_before.Goals as goal
 use Rattle.frame.proofs.pair_buffer.add_before.Goals.{then-is_before+in_ok-add_number, else-is_before}

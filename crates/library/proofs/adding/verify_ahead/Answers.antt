@@ -1,7 +1,10 @@
-use Rattle.library.proofs.Words.{arith, subst, IsLeastUnproved}
+use Rattle.library.proofs.Words.{subst}
+use Rattle.library.specs.ProofJobs.{IsProofStop}
 use Rattle.library.proofs.UnprovedLemmas.{all-to}
 use Rattle.library.proofs.adding.verify_ahead.Goals as goal
 
-pub returns-in-Ok-None-least_unproved-clause-proved : goal.returns-in-Ok-None-least_unproved-clause-proved
-returns-in-Ok-None-least_unproved-clause-proved g c =
-    (omega arith, all-to c.args.statements.now (subst (IsLeastUnproved c.args.statements.now 0) c.in-Ok-None-least_unproved.field-0-is c.in-Ok-None-least_unproved.ensures))
+pub returns-in-Ok-AllRight-clause-proved : goal.returns-in-Ok-AllRight-clause-proved
+returns-in-Ok-AllRight-clause-proved g c =
+    let S = c.args.statements.now in
+    rw c.count.ensures (all-to S c.new-proofs_meter.result c.judge_proofs.new.meter c.new-proofs_meter.ensures.count
+    (subst (IsProofStop S 0 c.new-proofs_meter.result c.judge_proofs.new.meter) c.in-Ok-AllRight.field-0-is c.in-Ok-AllRight.ensures))

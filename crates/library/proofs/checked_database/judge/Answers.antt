@@ -1,30 +1,32 @@
-use Rattle.library.proofs.Words.{ap, sym, subst, is_unfinished, proof_of, IsLeastUnproved, ◌∙◌}
-use Rattle.library.proofs.CheckedDatabaseLemmas.{all-proved, first-fault, known-front, legal-after}
-use Rattle.library.proofs.UnprovedLemmas.{known-least}
+use Rattle.library.proofs.Words.{Ok, Some, ◌∙◌, ap, arith, inr, refl, subst}
+use Rattle.library.specs.ProofJobs.{IsProofStop}
+use Rattle.verify_pool.specs.declared.outcome.Outcome.TheVariants.{AllRight, Wrong}
+use Rattle.verify_pool.specs.declared.outcome.Outcome.TheVariants as pool
+use Rattle.library.proofs.CheckedDatabaseLemmas.{begun-stop}
+use Rattle.library.proofs.FrontLemmas.{stands_index}
 use Rattle.library.proofs.checked_database.judge.Goals as goal
 
-pub returns-in_default-2-clause-judged : goal.returns-in_default-2-clause-judged
-returns-in_default-2-clause-judged g c =
+pub returns-in-AllRight : goal.returns-in-AllRight
+returns-in-AllRight g c =
     let S = c.args.statements.now in
-    let least = subst (IsLeastUnproved S c.args.start) c.in_default-2.is (known-least S c.args.start c.args.added.proved_to _ c.requires.proved_to c.in_ok-at.ensures) in
-    (legal-after S c.args.start _ _ c.requires.broken c.in_ok-statement.was c.in_default.is, all-proved S c.args.start (known-front S _ _ c.requires.proved_to) least)
+    let from = c.begin_proofs-start.result in
+    let stop = subst (IsProofStop S from c.begin_proofs-start.new.meter c.judge_proofs.new.meter) c.in-AllRight.is c.in_ok-judge_proofs.ensures in
+    inr (c.in_ok-cause.was ∙ ap Ok c.in_default.is, (AllRight, begun-stop S c.args.added c.args.meter.now c.begin_proofs-start.new.meter c.judge_proofs.new.meter from AllRight c.requires.known c.begin_proofs-start.ensures stop, refl))
 
-pub returns-then-is_unfinished-clause-judged : goal.returns-then-is_unfinished-clause-judged
-returns-then-is_unfinished-clause-judged g c =
+pub returns-in-TooCostly : goal.returns-in-TooCostly
+returns-in-TooCostly g c =
     let S = c.args.statements.now in
-    let least = subst (IsLeastUnproved S c.args.start) c.in-Some-2.is (known-least S c.args.start c.args.added.proved_to _ c.requires.proved_to c.in_ok-at.ensures) in (
-      c.index-statements-at.result,
-      legal-after S c.args.start _ _ c.requires.broken c.in_ok-statement.was c.in_default.is,
-      first-fault S c.args.start (known-front S _ _ c.requires.proved_to) c.in-Some-2.at c.index-statements-at.result least c.index-statements-at.is,
-      ap (λ s. is_unfinished (proof_of s)) c.in-Prove.is ∙ (sym c.is_unfinished.ensures ∙ c.if-is_unfinished.true),
-    )
+    let from = c.begin_proofs-start.result in
+    let at = c.in-TooCostly.at in
+    let stop = subst (IsProofStop S from c.begin_proofs-start.new.meter c.judge_proofs.new.meter) c.in-TooCostly.is c.in_ok-judge_proofs.ensures in
+    inr (c.in_ok-cause.was ∙ ap Ok c.in_default.is, (pool.TooCostly at, begun-stop S c.args.added c.args.meter.now c.begin_proofs-start.new.meter c.judge_proofs.new.meter from (pool.TooCostly at) c.requires.known c.begin_proofs-start.ensures stop, refl))
 
-pub returns-else-is_unfinished-clause-judged : goal.returns-else-is_unfinished-clause-judged
-returns-else-is_unfinished-clause-judged g c =
+pub returns-in-Wrong : goal.returns-in-Wrong
+returns-in-Wrong g c =
     let S = c.args.statements.now in
-    let least = subst (IsLeastUnproved S c.args.start) c.in-Some-2.is (known-least S c.args.start c.args.added.proved_to _ c.requires.proved_to c.in_ok-at.ensures) in (
-      c.index-statements-at.result,
-      legal-after S c.args.start _ _ c.requires.broken c.in_ok-statement.was c.in_default.is,
-      first-fault S c.args.start (known-front S _ _ c.requires.proved_to) c.in-Some-2.at c.index-statements-at.result least c.index-statements-at.is,
-      ap (λ s. is_unfinished (proof_of s)) c.in-Prove.is ∙ (sym c.is_unfinished.ensures ∙ c.if-is_unfinished.false),
-    )
+    let from = c.begin_proofs-start.result in
+    let at = c.in-Wrong.at in
+    let stop = subst (IsProofStop S from c.begin_proofs-start.new.meter c.judge_proofs.new.meter) c.in-Wrong.is c.in_ok-judge_proofs.ensures in
+    let whole = begun-stop S c.args.added c.args.meter.now c.begin_proofs-start.new.meter c.judge_proofs.new.meter from (Wrong at) c.requires.known c.begin_proofs-start.ensures stop in
+    let above = whole.0 in
+    inr (c.in_ok-cause.was ∙ ap Ok c.in_default.is, (Wrong at, whole, (c.index-statements-at.result, stands_index S at c.index-statements-at.result (omega (arith, above)) whole.1 c.index-statements-at.is, ap Some c.proof_cause.ensures)))

@@ -1,6 +1,6 @@
+use Rattle.frame.proofs.PairListLemmas.{each-below}
 use Rattle.frame.specs.ListsOfPairs.{is_numbered_pair}
 use Rattle.subst.proofs.Words.{◌&&◌, length, get_or, sym, ◌∙◌, ap, list_all, list_all_more, below-at}
-use Rattle.subst.proofs.VariableListLemmas.{below-has}
 use Rattle.subst.proofs.DisjointImageLemmas.{has-at, row-tells}
 use Rattle.subst.proofs.violation.first_unpaired.Goals as goal
 
@@ -12,7 +12,7 @@ returns-in-Some c =
     let others = c.args.others.now in (
       has-at c.args.variables.now c.loop-variable.variable-index c.loop-variable-test.true,
       c.in-Some.ensures.0,
-      sym (c.in_ok-read_row.ensures.each c.in-Some.other (below-has (length c.args.pairs.now.names) others c.in-Some.other c.requires.others c.in-Some.ensures.0)) ∙ c.in-Some.ensures.1,
+      sym (c.in_ok-read_row.ensures.row.each c.in-Some.other (each-below (length c.args.pairs.now.names) others c.in-Some.other c.requires.others c.in-Some.ensures.0)) ∙ c.in-Some.ensures.1,
     )
 
 pub loop-variable-preserved : goal.loop-variable-preserved
@@ -23,4 +23,4 @@ loop-variable-preserved c =
     let n = c.loop-variable.variable-index in
     list_all_more (λ u. list_all (is_numbered_pair v u) others) variables n 0 c.loop-variable-test.true
     ∙ (ap (λ b. b && list_all (is_numbered_pair v (get_or variables n 0)) others) c.loop-variable.invariant
-    ∙ (sym (row-tells v (get_or variables n 0) c.read_row.new.row others c.in_ok-read_row.ensures c.requires.others) ∙ c.in_default.ensures))
+    ∙ (sym (row-tells v (get_or variables n 0) c.read_row.new.row others c.in_ok-read_row.ensures.row c.requires.others) ∙ c.in_default.ensures))

@@ -1,4 +1,5 @@
-use Rattle.subst.proofs.Words.{◌≡◌, ◌==◌, ◌&&◌, not, false, take, list_any, code_image, images_at, has_number}
+use Rattle.frame.specs.MandatoryPairs.{has_number}
+use Rattle.subst.proofs.Words.{◌≡◌, ◌==◌, ◌&&◌, not, false, take, list_any, code_image, images_at}
 use Rattle.subst.proofs.violation.first_with.Given as goal
 
 -- no image so far has the symbol

@@ -1,4 +1,5 @@
-use Rattle.subst.proofs.Words.{◌≡◌, ◌||◌, Bool, true, false, nat_eq, refl, sym, ◌∙◌, ap, has_number}
+use Rattle.frame.specs.MandatoryPairs.{has_number}
+use Rattle.subst.proofs.Words.{◌≡◌, ◌||◌, Bool, true, false, nat_eq, refl, sym, ◌∙◌, ap}
 use Rattle.subst.proofs.ImageRangesLemmas.{image-none, image-some}
 use Rattle.subst.proofs.violation.has_in_image.Goals as goal
 
@@ -9,7 +10,7 @@ returns-in-Some c =
 
 pub returns-in-None : goal.returns-in-None
 returns-in-None c =
-    alone (nat_eq c.args.symbol c.args.y) ∙ ap (λ l. has_number l c.args.symbol) (sym (image-none c.args.symbols.now c.args.images.now c.args.y (sym c.get.ensures ∙ c.in-None.is)))
+    alone (nat_eq c.args.y c.args.symbol) ∙ ap (λ l. has_number l c.args.symbol) (sym (image-none c.args.symbols.now c.args.images.now c.args.y (sym c.get.ensures ∙ c.in-None.is)))
   where
     alone : (b : Bool) → b ≡ (b || false)
     alone true = refl

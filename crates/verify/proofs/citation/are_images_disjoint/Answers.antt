@@ -1,7 +1,9 @@
-use Rattle.verify.proofs.Words.{[], refl, list_all, Name, has_name, CodeImages, ◌≡◌, ℕ, zero, suc, ◌≤◌, List, Bool, length, arith, sym, ◌∙◌, ap, subst, slice_get, slice_get_within, Some, IfOk-weaker, Stmt, Database, before, stmt_at, decode, is_numbered_pair, float_variables, pair_lists, images_of_names, mandatory_groups, are_groups_disjoint, are_numbered_lists_disjoint, AllBelow, AreBelow, AreDistinct, AreOver, TellsDisjoint}
+use Rattle.verify.proofs.Words.{[], refl, list_all, Name, has_name, CodeImages, ◌≡◌, ℕ, zero, suc, ◌≤◌, List, length, arith, sym, ◌∙◌, ap, subst, slice_get_within, Some, IfOk-weaker, on_ok_weaker, Stmt, Database, before, stmt_at, decode, is_numbered_pair, pair_lists, images_of_names, mandatory_groups, are_groups_disjoint, AllBelow, AreBelow, AreDistinct, AreOver}
 use Rattle.frame.specs.Disjoint.{is_list_disjoint}
 use Rattle.frame.specs.FrameOf.{is_mandatory}
 use Rattle.frame.proofs.PairDisjointLemmas.{kept-decide, made-decide}
+use Rattle.subst.proofs.PastLemmas.{err_weaker}
+use Rattle.verify.proofs.PairCountLemmas.{kept-pairs, kept-past, made-pairs, made-past}
 use Rattle.verify.proofs.citation.are_images_disjoint.Goals as goal
 
 stands-within : (S : Database) (a : ℕ) (s : Stmt) → stmt_at S a ≡ Some s → (1 ≤ a) × (a ≤ length S)
@@ -75,3 +77,29 @@ returns-clause-disjoint c =
     (λ x. ap (λ l. has_name x (decode names l)) c.in_ok-begin.ensures ∙ (is.variables.mandatory x ∙ ap (λ A. is_mandatory A s x) (sym c.active_pairs-cited_pairs.ensures.statements)))
     ∙ ap (λ A. are_groups_disjoint (before S t.at) τ (mandatory_groups A s)) c.active_pairs-cited_pairs.ensures.statements)))
     c.are_made_disjoint.ensures.disjoint
+
+pub returns-then-cited-clause-counted : goal.returns-then-cited-clause-counted
+returns-then-cited-clause-counted c =
+    on_ok_weaker c.are_disjoint.result
+    (kept-pairs c.args.context.now c.args.position c.args.results.now.images c.requires.may.ready c.requires.over c.args.cited.now c.requires.cited c.requires.may.assertion c.args.meter.now c.are_disjoint.new.meter c.if-cited.true)
+    c.are_disjoint.ensures.counted
+
+pub returns-clause-counted : goal.returns-clause-counted
+returns-clause-counted c =
+    on_ok_weaker c.are_made_disjoint.result
+    (made-pairs c.args.context.now c.args.position c.args.results.now.images c.requires.may.ready c.requires.over c.args.cited.now c.requires.cited c.requires.may.assertion c.args.meter.now c.are_made_disjoint.new.meter
+    c.active_pairs-cited_pairs.result c.begin.new.self.variables c.active_pairs-cited_pairs.ensures.statements c.active_pairs-cited_pairs.ensures.names c.in_ok-begin.ensures)
+    c.are_made_disjoint.ensures.counted
+
+pub returns-then-cited-clause-costly : goal.returns-then-cited-clause-costly
+returns-then-cited-clause-costly c =
+    err_weaker c.are_disjoint.result _ _
+    (λ stop costly is. kept-past c.args.context.now c.args.position c.args.results.now.images c.requires.may.ready c.requires.over c.args.cited.now c.requires.cited c.requires.may.assertion c.args.meter.now c.args.meter.now c.if-cited.true (costly is))
+    c.are_disjoint.ensures.costly
+
+pub returns-clause-costly : goal.returns-clause-costly
+returns-clause-costly c =
+    err_weaker c.are_made_disjoint.result _ _
+    (λ stop costly is. made-past c.args.context.now c.args.position c.args.results.now.images c.requires.may.ready c.requires.over c.args.cited.now c.requires.cited c.requires.may.assertion c.args.meter.now c.args.meter.now
+    c.active_pairs-cited_pairs.result c.begin.new.self.variables c.active_pairs-cited_pairs.ensures.statements c.active_pairs-cited_pairs.ensures.names c.in_ok-begin.ensures (costly is))
+    c.are_made_disjoint.ensures.costly

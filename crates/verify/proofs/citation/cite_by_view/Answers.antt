@@ -1,7 +1,9 @@
-use Rattle.verify.proofs.Words.{MayCite, ◌≡◌, ℕ, ◌<◌, ◌↔◌, Bool, true, false, is_some, IsTrue, List, length, map, arith, sym, ap, ◌∙◌, subst, IfOk-weaker, Name, Database, AreDistinct, decode, AllBelow, are_groups_disjoint, CodeImages, images_of_names, AreOver, Hypothesis, Reads, HypothesesMatch, Results, below, top, Adds}
+use Rattle.verify.proofs.Words.{MayCite, ◌≡◌, ℕ, ◌<◌, ◌↔◌, Bool, true, false, is_some, IsTrue, List, length, map, arith, refl, sym, ap, HeldResults, IsKept, ◌∙◌, subst, IfOk-weaker, Name, Database, decode, CodeImages, images_of_names, Hypothesis, Reads, HypothesesMatch, Results, below, top, Adds}
 use Rattle.verify.proofs.RequiredHypotheses.{required-lengths, required-different, required-standing}
 use Rattle.verify.proofs.CitationLemmas.{over-read, has-cited, not-cited}
 use Rattle.verify.proofs.ResultPlaceLemmas.{kept-as}
+use Rattle.verify.proofs.CountLemmas.{fit-apart, fit-done, fit-not, fit-past}
+use Rattle.verify.proofs.ItemCountLemmas.{passed_on}
 use Rattle.verify.proofs.citation.cite_by_view.Goals as goal
 
 -- a fact about one flag holds of a flag that is equal to it
@@ -55,10 +57,51 @@ returns-then-not-branch-clause-effect c =
 
 pub returns-clause-effect : goal.returns-clause-effect
 returns-clause-effect c =
-    IfOk-weaker c.apply.result _ _
-    (λ ok adds. has-cited _ _ _ c.requires.may c.args.cited.now c.requires.cited ok _ c.read_images.new.self.images (let h = c.if-count-len.false in omega (arith, h, c.len.ensures)) (reads-as _ true _ _ _ _ (ap is_some c.in-Some.is) c.in_ok-has_essentials.ensures.read) ((fit-as _ _ _ _ _ _ _ (ap (λ (v : Results ℕ). v.stack) c.in_ok-has_essentials.ensures.same) c.hypotheses_match.ensures).0 c.if-not-hypotheses_match.false)
+    has-cited _ _ _ c.requires.may c.args.cited.now c.requires.cited c.in_ok-apply.field-0 _ c.read_images.new.self.images (let h = c.if-count-len.false in omega (arith, h, c.len.ensures)) (reads-as _ true _ _ _ _ (ap is_some c.in-Some.is) c.in_ok-has_essentials.ensures.read) ((fit-as _ _ _ _ _ _ _ (ap (λ (v : Results ℕ). v.stack) c.in_ok-has_essentials.ensures.same) c.hypotheses_match.ensures).0 c.if-not-hypotheses_match.false)
     (λ s h. sym c.if-not-branch.false ∙ c.in_ok-are_images_disjoint.ensures.disjoint s h)
-    (adds-as ok c.read_images.new.self.results _ _ _ _ _ c.in_ok-has_essentials.ensures.same c.len-count.ensures adds)) (rw c.in_ok-are_images_disjoint.ensures.same at c.apply.ensures.adds)
+    (adds-as c.in_ok-apply.field-0 c.read_images.new.self.results _ _ _ _ _ c.in_ok-has_essentials.ensures.same c.len-count.ensures (rw c.in_ok-are_images_disjoint.ensures.same at c.in_ok-apply.ensures.adds))
 
 pub returns-clause-kept : goal.returns-clause-kept
-returns-clause-kept c = IfOk-weaker c.apply.result _ _ (λ ok. kept-as ok _ _ _ c.in_ok-has_essentials.ensures.same c.in_ok-has_essentials.ensures.symbols) (rw c.in_ok-are_images_disjoint.ensures.same at c.apply.ensures.kept)
+returns-clause-kept c = kept-as c.in_ok-apply.field-0 _ _ _ c.in_ok-has_essentials.ensures.same c.in_ok-has_essentials.ensures.symbols (rw c.in_ok-are_images_disjoint.ensures.same at c.in_ok-apply.ensures.kept)
+
+-- ---- what is counted
+
+pub returns-then-count-len-clause-counted : goal.returns-then-count-len-clause-counted
+returns-then-count-len-clause-counted c =
+    let few : length c.args.results.now.results.stack < length c.args.cited.now.hypotheses = omega (arith, c.if-count-len.true, c.len.ensures) in
+    fit-not c.args.context.now c.args.position c.args.results.now c.requires.may c.args.cited.now c.requires.cited c.args.results.now c.args.meter.now c.args.meter.now refl refl (λ m. (let many = m.many in omega (arith, few, many)))
+
+pub returns-in_default-clause-counted : goal.returns-in_default-clause-counted
+returns-in_default-clause-counted c =
+    let r = reads-as _ false _ _ _ _ (ap is_some c.in_default.is) c.in_ok-has_essentials.ensures.read in
+    fit-not c.args.context.now c.args.position c.args.results.now c.requires.may c.args.cited.now c.requires.cited c.read_images.new.self c.args.meter.now c.args.meter.now c.in_ok-has_essentials.ensures.same refl (λ m. r.3 (m.typed r.0 r.1 r.2))
+
+pub returns-then-not-hypotheses_match-clause-counted : goal.returns-then-not-hypotheses_match-clause-counted
+returns-then-not-hypotheses_match-clause-counted c =
+    fit-not c.args.context.now c.args.position c.args.results.now c.requires.may c.args.cited.now c.requires.cited c.read_images.new.self c.args.meter.now c.args.meter.now c.in_ok-has_essentials.ensures.same refl
+    (λ m. (let e = (fit-as _ _ _ _ _ _ _ (ap (λ (v : Results ℕ). v.stack) c.in_ok-has_essentials.ensures.same) c.hypotheses_match.ensures).1 (m.fits c.read_images.new.self.images (reads-as _ true _ _ _ _ (ap is_some c.in-Some.is) c.in_ok-has_essentials.ensures.read)) in let t = c.if-not-hypotheses_match.true in cc))
+
+pub returns-then-not-branch-clause-counted : goal.returns-then-not-branch-clause-counted
+returns-then-not-branch-clause-counted c =
+    fit-apart c.args.context.now c.args.position c.args.results.now c.requires.may c.args.cited.now c.requires.cited c.read_images.new.self.images c.args.meter.now c.are_images_disjoint.new.meter
+    (let h = c.if-count-len.false in omega (arith, h, c.len.ensures)) (reads-as _ true _ _ _ _ (ap is_some c.in-Some.is) c.in_ok-has_essentials.ensures.read)
+    ((fit-as _ _ _ _ _ _ _ (ap (λ (v : Results ℕ). v.stack) c.in_ok-has_essentials.ensures.same) c.hypotheses_match.ensures).0 c.if-not-hypotheses_match.false)
+    c.in_ok-are_images_disjoint.ensures.counted c.are_images_disjoint.new.results (ap (λ (v : HeldResults). v.results) c.in_ok-are_images_disjoint.ensures.same ∙ c.in_ok-has_essentials.ensures.same)
+    (λ s h. sym c.if-not-branch.true ∙ c.in_ok-are_images_disjoint.ensures.disjoint s h)
+
+pub returns-in_err-are_images_disjoint-clause-costly : goal.returns-in_err-are_images_disjoint-clause-costly
+returns-in_err-are_images_disjoint-clause-costly c =
+    passed_on c.from_residual-in_err-are_images_disjoint.result c.in_err-are_images_disjoint.field-0.0 _ c.from_residual-in_err-are_images_disjoint.ensures.1
+    (λ is. fit-past c.args.context.now c.args.position c.args.results.now c.requires.may c.args.cited.now c.requires.cited c.read_images.new.self.images c.args.meter.now c.args.meter.now
+    (let h = c.if-count-len.false in omega (arith, h, c.len.ensures)) (reads-as _ true _ _ _ _ (ap is_some c.in-Some.is) c.in_ok-has_essentials.ensures.read)
+    ((fit-as _ _ _ _ _ _ _ (ap (λ (v : Results ℕ). v.stack) c.in_ok-has_essentials.ensures.same) c.hypotheses_match.ensures).0 c.if-not-hypotheses_match.false)
+    (c.in_err-are_images_disjoint.ensures.costly is))
+
+pub returns-clause-counted : goal.returns-clause-counted
+returns-clause-counted c =
+    fit-done c.args.context.now c.args.position c.args.results.now c.requires.may c.args.cited.now c.requires.cited c.read_images.new.self.images c.args.meter.now c.are_images_disjoint.new.meter
+    (let h = c.if-count-len.false in omega (arith, h, c.len.ensures)) (reads-as _ true _ _ _ _ (ap is_some c.in-Some.is) c.in_ok-has_essentials.ensures.read)
+    ((fit-as _ _ _ _ _ _ _ (ap (λ (v : Results ℕ). v.stack) c.in_ok-has_essentials.ensures.same) c.hypotheses_match.ensures).0 c.if-not-hypotheses_match.false)
+    c.in_ok-are_images_disjoint.ensures.counted c.in_ok-apply.field-0 c.apply.new.self (λ s h. sym c.if-not-branch.false ∙ c.in_ok-are_images_disjoint.ensures.disjoint s h)
+    c.in_ok-apply.ensures.light (λ e. (subst (λ b. IsKept b c.args.results.now c.apply.new.self) e (returns-clause-kept c)).0)
+    (adds-as c.in_ok-apply.field-0 c.read_images.new.self.results _ _ _ _ _ c.in_ok-has_essentials.ensures.same c.len-count.ensures (rw c.in_ok-are_images_disjoint.ensures.same at c.in_ok-apply.ensures.adds))

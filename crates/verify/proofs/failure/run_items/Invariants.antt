@@ -1,8 +1,10 @@
-use Rattle.verify.proofs.Words.{List, map, take, Name, HasLegalProperties, item_of, AreNamed, AreEntries, walk, walk_start}
+use Rattle.verify.proofs.Words.{List, before, map, named, take, Name, HasLegalProperties, item_of, AreNamed, AreEntries, walk, walk_start}
+use Rattle.verify.proofs.RunCountLemmas.{CountedRun}
 use Rattle.verify.proofs.StepLemmas.{Reached}
 use Rattle.verify.proofs.failure.run_items.Given as goal
 
--- the results are those of a run over the items before the next one, and the listener follows it
+-- the results are those of a run over the items before the next one, the listener follows it, and
+-- they were counted
 abbrev pub invariant-loop-done : goal.invariant-loop-done
 invariant-loop-done g l =
     (legal : HasLegalProperties l.context.frames.now.statements l.context.frames.now.names)
@@ -11,3 +13,5 @@ invariant-loop-done g l =
     → Reached l.context.frames.now.statements l.context.frames.now.names l.context.at legal (map (item_of labels) (take l.done l.numbers)) l.buffers.results.results)
     × ((labels : List Name) → AreEntries l.context.frames.now.statements l.context.at labels l.table → g.L.Listener.follows (walk_start l.context.frames.now l.context.at) l.initial.listener
     → g.L.Listener.follows (walk l.context.frames.now l.context.at (map (item_of labels) (take l.done l.numbers)) l.buffers.results) l.listener)
+    × ((labels : List Name) → AreEntries l.context.frames.now.statements l.context.at labels l.table
+    → CountedRun (before l.context.frames.now.statements l.context.at) (map (item_of labels) (take l.done l.numbers)) (named l.context.frames.now.names l.buffers.results.results) l.initial.meter l.meter)

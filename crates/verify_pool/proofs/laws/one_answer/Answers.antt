@@ -1,4 +1,4 @@
-use Rattle.verify_pool.proofs.LeastLemmas.{one_answer}
+use Rattle.verify_pool.proofs.FirstWrongLemmas.{one_answer}
 use Rattle.verify_pool.proofs.laws.one_answer.Goals as goal
 
 pub returns : goal.returns

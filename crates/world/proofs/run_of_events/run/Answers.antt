@@ -20,7 +20,7 @@ pub loop-event-preserved : goal.loop-event-preserved
 loop-event-preserved c = record {
   can = tt;
   finite = tt;
-  world = run_goes_on c.args.weights c.args.event_limit c.loop-event.yielded c.in-Some.event c.loop-event.world c.step.new.self c.loop-event.invariant.world c.in_default.ensures.taken;
+  world = run_goes_on c.args.weights c.args.event_limit c.args.work_limit c.loop-event.yielded c.in-Some.event c.loop-event.world c.step.new.self c.loop-event.invariant.world c.in_default.ensures.taken;
   taken = step_taken c.loop-event.world c.step.new.self (value_event c.in-Some.event) c.step.result _ c.in_default.ensures.taken c.in_default.is c.step.ensures.refused;
 }
 
@@ -32,5 +32,5 @@ returns-clause-headline c =
     let whole : c.args.events.items ≡ done =
     sym c.into_iter-event-iterator.ensures.into_iter_gives.0 ∙ (taken_front c.into_iter-event-iterator.result done it c.loop-event.yielded_by
     ∙ (ap (λ (es : List (Event Entry)). done ++ es) none ∙ append-nil done)) in
-    subst Headline (ap (λ (r : WorldView). r.history) c.loop-event.invariant.world ∙ ap (λ (es : List (Event Entry)). let t : History Carried = record { weights = c.args.weights; event_limit = c.args.event_limit; events = value_events es } in t) (sym whole))
-    (headline_holds c.loop-event.world.history c.loop-event.invariant.taken)
+    subst (Headline c.args.work_limit) (ap (λ (r : WorldView). r.history) c.loop-event.invariant.world ∙ ap (λ (es : List (Event Entry)). let t : History Carried = record { weights = c.args.weights; event_limit = c.args.event_limit; events = value_events es } in t) (sym whole))
+    (headline_holds c.args.work_limit c.loop-event.world.history c.loop-event.invariant.taken)

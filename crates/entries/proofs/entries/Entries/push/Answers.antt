@@ -9,7 +9,7 @@ invariant_of-self-else-is_err c =
     let done = sym c.is_err.ensures.value ∙ c.if-is_err.false in
     let added = c.add-added.ensures in
     let last = on-ok c.add-added.result _ done added.last in let state_before = on-ok c.add-added.result _ done added.state_before in (
-      packed-push s.numbers.items m.numbers.items s.groups.items m.groups.items s.records.items m.records.items c.args.header.kind (has_parts p) p.whole (numbers_of (has_parts p) p) p.groups.now
+      packed-push s.numbers.items m.numbers.items s.groups.items m.groups.items s.records.items m.records.items c.args.header.kind c.args.header.size (has_parts p) p.whole (numbers_of (has_parts p) p) p.groups.now
           c.self.invariant.0 (on-ok c.add-added.result _ done added.added) (on-ok c.add-added.result _ done added.groups) last
           (run-laid p (has_parts p) c.requires refl) (omega (arith, c.len-count.ensures)),
       ap length state_before ∙ (length-append s.states_before.items _ ∙ (ap (λ n. n + 1) c.self.invariant.1 ∙ (sym (length-append s.records.items _) ∙ sym (ap length last)))),
@@ -23,9 +23,9 @@ returns-else-is_err-clause-added c =
     let bodies = bodies_of s.numbers.items s.groups.items s.records.items in
     let last = on-ok c.add-added.result _ done added.last in
     ok-weaker c.add-added.result _ _
-    (λ numbers. ap (λ bs. with_states_before bs m.states_before.items) (bodies-push s.numbers.items m.numbers.items s.groups.items m.groups.items s.records.items m.records.items c.args.header.kind (has_parts p) p.whole (numbers_of (has_parts p) p) p.groups.now
+    (λ numbers. ap (λ bs. with_states_before bs m.states_before.items) (bodies-push s.numbers.items m.numbers.items s.groups.items m.groups.items s.records.items m.records.items c.args.header.kind c.args.header.size (has_parts p) p.whole (numbers_of (has_parts p) p) p.groups.now
     c.self.invariant.0 numbers (on-ok c.add-added.result _ done added.groups) last)
     ∙ (ap (with_states_before _) (on-ok c.add-added.result _ done added.state_before)
     ∙ (with-push bodies s.states_before.items _ c.args.header.before (c.self.invariant.1 ∙ sym (bodies-length s.numbers.items s.groups.items s.records.items))
-    ∙ (ap (λ b. with_states_before bodies s.states_before.items ++ with_state_before b c.args.header.before ∷ []) (run-body c.args.header.kind p (length s.numbers.items) (length s.groups.items) (has_parts p) c.requires refl)
+    ∙ (ap (λ b. with_states_before bodies s.states_before.items ++ with_state_before b c.args.header.before ∷ []) (run-body c.args.header.kind c.args.header.size p (length s.numbers.items) (length s.groups.items) (has_parts p) c.requires refl)
     ∙ ap (λ es. es ++ entry_by c.args.header p.symbols.now (assertion_of p) ∷ []) c.self.view_is)))) added.added

@@ -1,5 +1,6 @@
 use Rattle.frame.proofs.Words.{◌-◌, sym, subst, is_disj, statements_of, positions_of, AreOfKind}
 use Rattle.frame.proofs.PairTableLemmas.{positions_with-of-kind, row-is, row-low, row-together}
+use Rattle.frame.proofs.RowLemmas.{row-sum}
 use Rattle.frame.proofs.pairs.Pairs.disjoints_with.Goals as goal
 
 pub new-requires-clause-disjoints : goal.new-requires-clause-disjoints
@@ -17,4 +18,5 @@ returns c =
       pairs = λ y b. row-is k c.self.invariant.0 c.self.invariant.1 m c.args.x y st lt b c.active_disjoints.ensures;
       together = row-together k c.self.invariant.0 c.self.invariant.1 m c.args.x st c.active_disjoints.ensures;
       below = row-low k c.self.invariant.0 c.self.invariant.1 m st;
+      row = row-sum k c.self.invariant.0 c.self.invariant.1 m c.args.x st lt c.active_disjoints.ensures;
     })

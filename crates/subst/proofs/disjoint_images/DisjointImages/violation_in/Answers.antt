@@ -10,7 +10,7 @@ violation_with-requires-clause-below c = below-take (length c.args.pairs.now.nam
 
 pub loop-i-preserved : goal.loop-i-preserved
 loop-i-preserved c = record {
-  lists = c.in_ok-violation.ensures.lists;
+  read = c.in_ok-violation.ensures.read;
   decides = decides-more c.args.pairs.now.statements (image_named c.args.pairs.now.names (images_at c.args.symbols.now c.args.images.now)) c.args.group.now c.loop-i.i true true c.loop-i-test.true
       c.loop-i.invariant.decides (sym (rw c.in_default.is at c.in_ok-violation.ensures.found));
 }

@@ -1,4 +1,5 @@
-use Rattle.subst.proofs.Words.{◌≡◌, ℕ, ◌||◌, take, has_number, has_symbol}
+use Rattle.subst.proofs.Words.{◌≡◌, ℕ, ◌||◌, take, has_symbol}
+use Rattle.subst.proofs.Members.{has_number}
 use Rattle.subst.proofs.symbol_set.SymbolSet.add_all.Given as goal
 
 -- the symbols so far were added

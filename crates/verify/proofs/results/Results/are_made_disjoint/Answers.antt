@@ -1,10 +1,45 @@
-use Rattle.verify.proofs.Words.{◌≡◌, ◌∙◌, [], is_numbered_pair, pair_lists, ap, sym, subst, IfOk, images_at, are_numbered_lists_disjoint, AreOver, CodeImages}
+use Rattle.frame.specs.MandatoryPairs.{has_two_or_more_items}
+use Rattle.frame.specs.NumberedWork.{lists_work}
+use Rattle.subst.proofs.PastLemmas.{err_weaker}
+use Rattle.subst.specs.ReadImages.{is_over}
+use Rattle.verify.proofs.PairCountLemmas.{past-left}
+use Rattle.verify.specs.Metered.{left_of, with_work}
+use Rattle.verify.proofs.Words.{◌≡◌, ◌∙◌, true, [], is_numbered_pair, pair_lists, filter, ap, sym, subst, images_at, IfOk-weaker, on_ok_weaker, are_numbered_lists_disjoint, AreOver, CodeImages}
 use Rattle.verify.proofs.results.Results.are_made_disjoint.Goals as goal
 
-pub are_made_lists_disjoint-requires-clause-named : goal.are_made_lists_disjoint-requires-clause-named
-are_made_lists_disjoint-requires-clause-named c =
+pub are_made_lists_disjoint-all-requires-clause-named : goal.are_made_lists_disjoint-all-requires-clause-named
+are_made_lists_disjoint-all-requires-clause-named c =
     subst (AreOver c.args.pairs.now.names) (sym (ap (λ v. v.images) c.self.view_is) ∙ sym (ap (λ s. images_at s c.self.inside.images) c.as_slice.ensures.symbols)) c.requires.over
 
 pub returns-clause-disjoint : goal.returns-clause-disjoint
 returns-clause-disjoint c =
-    subst (λ (σ : CodeImages). IfOk c.are_made_lists_disjoint.result (λ ok. ok ≡ are_numbered_lists_disjoint c.args.pairs.now σ (pair_lists (is_numbered_pair c.args.cited.now) [] c.args.made.now.variables))) (ap (λ s. images_at s c.self.inside.images) c.as_slice.ensures.symbols ∙ ap (λ v. v.images) c.self.view_is) c.are_made_lists_disjoint.ensures
+    IfOk-weaker c.are_made_lists_disjoint-all.result _ _
+    (λ ok e. e ∙ ap (λ (σ : CodeImages). are_numbered_lists_disjoint c.args.pairs.now σ (pair_lists (is_numbered_pair c.args.cited.now) [] c.args.made.now.variables)) (ap (λ s. images_at s c.self.inside.images) c.as_slice.ensures.symbols ∙ ap (λ v. v.images) c.self.view_is))
+    c.are_made_lists_disjoint-all.ensures.disjoint
+
+pub returns-clause-counted : goal.returns-clause-counted
+returns-clause-counted c =
+    on_ok_weaker c.are_made_lists_disjoint-all.result
+    (λ counted. record {
+      made = counted.made;
+      reordered = counted.reordered;
+      counted = c.in_ok-add.ensures.counted
+          ∙ ap (with_work c.args.meter.now) (c.work.ensures ∙ (counted.counted.work
+          ∙ ap (λ (σ : CodeImages). lists_work c.args.pairs.now σ (filter has_two_or_more_items counted.made)) (ap (λ s. images_at s c.self.inside.images) c.as_slice.ensures.symbols ∙ ap (λ v. v.images) c.self.view_is)));
+    })
+    c.are_made_lists_disjoint-all.ensures.counted
+
+pub returns-clause-costly : goal.returns-clause-costly
+returns-clause-costly c =
+    err_weaker c.are_made_lists_disjoint-all.result _ _
+    (λ stop costly is.
+    let past = costly is in
+    let lists = filter has_two_or_more_items past.made in record {
+      count = past.count;
+      made = past.made;
+      reordered = past.reordered;
+      past = past-left c.args.meter.now (lists_work c.args.pairs.now c.args.self.now.images lists)
+          (subst (λ (σ : CodeImages). is_over (left_of c.args.meter.now) (lists_work c.args.pairs.now σ lists) ≡ true) (ap (λ s. images_at s c.self.inside.images) c.as_slice.ensures.symbols ∙ ap (λ v. v.images) c.self.view_is)
+          (subst (λ l. is_over l (lists_work c.args.pairs.now (images_at c.as_slice.result.now c.self.inside.images) lists) ≡ true) (c.begin_citation.ensures.left ∙ c.left.ensures) past.past));
+    })
+    c.are_made_lists_disjoint-all.ensures.costly
