@@ -81,7 +81,7 @@ fn node_count_at(alloc: Global, frames: &Frames, stmt: &Stmt, mandatory: &Words)
         let items = items_of(alloc, proof, mandatory).ok()?;
         match check(alloc, frames, at, &items).ok()? {
             Answer::Proved => {}
-            Answer::Wrong => return Some(0),
+            Answer::Wrong | Answer::TooCostly => return Some(0),
         }
         match derivation(alloc, frames, at, &items) {
             Ok(tree) => Some(count_nodes(&tree)),
