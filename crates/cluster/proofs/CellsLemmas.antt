@@ -1,5 +1,5 @@
 -- New cells, one by one.
-use Rattle.cluster.proofs.Words.{◌≡◌, ℕ, zero, suc, ◌+◌, ◌<◌, List, [], ◌∷◌, ◌++◌, length, take, slice_get, Option, Some, refl, ap, sym, ◌∙◌, subst, arith, add-one, le_of_suc-le-suc, log_after, SwitchView, new_views, world_of, Carried, carried_size, Cell, new_cell, Belongs, EachBelongs, new_cells}
+use Rattle.cluster.proofs.Words.{◌≡◌, ℕ, zero, suc, ◌+◌, ◌<◌, List, [], ◌∷◌, ◌++◌, length, take, slice_get, Option, Some, refl, ap, sym, ◌∙◌, subst, arith, add-one, le_of_suc-le-suc, log_after, SwitchView, StoreView, KeptPart, AreResumedStores, new_views, world_of, Carried, carried_size, Cell, new_cell, Belongs, EachBelongs, new_cells}
 
 new_cells-take : (limit : Option ℕ) (k i : ℕ) (ws : List ℕ) → i < length ws → new_cells limit k (take (suc i) ws) ≡ new_cells limit k (take i ws) ++ new_cell limit (k + i) ∷ []
 new_cells-take limit k i [] h = absurd (omega arith)
@@ -29,6 +29,15 @@ new_cell_at limit j (suc k) (w ∷ ws) c at =
 pub count_new_views : (V : Type 0) {K : Type 0} (failures : K → ℕ) (keeps : List K) → length (new_views {V = V} failures keeps) ≡ length keeps
 count_new_views V failures [] = refl
 count_new_views V failures (keep ∷ keeps) = ap suc (count_new_views V failures keeps)
+
+-- there are as many stores of nodes that begin with the records of keeps as keeps
+pub count_resumed : (V : Type 0) {K : Type 0} (kept : K → KeptPart V) (failures : K → ℕ) (keeps : List K) (begins : List (KeptPart V)) (views : List (StoreView V)) → AreResumedStores kept failures keeps begins views → length views ≡ length keeps
+count_resumed V kept failures [] [] [] h = refl
+count_resumed V kept failures (keep ∷ keeps) (begun ∷ begins) (view ∷ views) h = ap suc (count_resumed V kept failures keeps begins views h.1)
+count_resumed V kept failures [] (begun ∷ begins) views h = elim h [ ]
+count_resumed V kept failures [] [] (view ∷ views) h = elim h [ ]
+count_resumed V kept failures (keep ∷ keeps) [] views h = elim h [ ]
+count_resumed V kept failures (keep ∷ keeps) (begun ∷ begins) [] h = elim h [ ]
 
 -- each new cell belongs to a switch with as many nodes, since it has no entries yet
 pub new_belong : (limit : Option ℕ) (ws : List ℕ) (cells : List Cell) (switch : SwitchView Carried) → cells ≡ new_cells limit 0 ws → length switch.stores ≡ length ws → EachBelongs cells switch

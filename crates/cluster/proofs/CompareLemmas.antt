@@ -1,9 +1,9 @@
 -- If two cells belong to one switch, the library of one is a prefix of that of the other.
-use Rattle.cluster.proofs.Words.{◌≡◌, ℕ, ◌+◌, ◌<◌, ◌≤◌, true, false, List, [], ◌∷◌, ◌++◌, length, inl, inr, Option, Result, Ok, Err, refl, ap, sym, ◌∙◌, subst, arith, append-nil, length-append, IsOk, Database, Carried, StepFault, World, log, log_after, IsPrefixOf, Agree, History, IsMoment, carried_size, entries_of, IsOfLog, Headline, entries_begin, headline_holds, of_longer, SwitchView, world_of, Cell, IsCell, work_limit_of, Belongs}
+use Rattle.cluster.proofs.Words.{◌≡◌, ℕ, ◌+◌, ◌<◌, ◌≤◌, true, false, List, [], ◌∷◌, ◌++◌, length, inl, inr, Option, Result, Ok, Err, refl, ap, sym, ◌∙◌, subst, arith, append-nil, length-append, IsOk, Database, Carried, StepFault, World, log, log_after, IsPrefixOf, Agree, History, IsMoment, carried_size, entries_of, IsOfLog, RunBefore, GoesOn, goes_on, history_of, entries_begin, libraries_of_logs_agree, of_longer, SwitchView, world_of, Cell, IsCell, work_limit_of, Belongs}
 
 module _ (s : SwitchView Carried) (w : World Carried) (is : world_of carried_size s ≡ Ok w) where
   abbrev history : History Carried
-  history = record { weights = s.weights; event_limit = s.event_limit; events = s.history }
+  history = history_of s
 
   -- the library of a cell is that of the log of its node
   of_log : (c : Cell) → Belongs c s → IsCell c → IsOfLog (work_limit_of c) (entries_of (log w c.node)) c.node_library
@@ -11,19 +11,18 @@ module _ (s : SwitchView Carried) (w : World Carried) (is : world_of carried_siz
       (entries_begin c.entries (log w c.node) (subst (λ (es : List (Option Carried)). IsPrefixOf c.entries es) (ap (λ (r : Result (World Carried) StepFault). log_after r c.node) is) b.begins)) h.of_entries
 
   -- the statements of two cells of the switch agree, by the headline in its world
-  agree_in : (one other : Cell) → Belongs one s → Belongs other s → work_limit_of one ≡ work_limit_of other → IsCell one → IsCell other → Agree one.node_library.library.statements other.node_library.library.statements
-  agree_in one other b d limit h k =
-      let line : Headline (work_limit_of other) history = headline_holds (work_limit_of other) history (subst (λ (r : Result (World Carried) StepFault). IsOk r) (sym is) refl) in
+  agree_in : RunBefore carried_size history → (one other : Cell) → Belongs one s → Belongs other s → work_limit_of one ≡ work_limit_of other → IsCell one → IsCell other → Agree one.node_library.library.statements other.node_library.library.statements
+  agree_in before one other b d limit h k =
+      let goes : GoesOn carried_size history before = goes_on carried_size history before w is in
       let moment : IsMoment carried_size history w = record { early = s.history; begins = ([], append-nil s.history); is_after = is } in
-      line.libraries_agree one.node_library.library other.node_library.library
-      record { world = w; moment = moment; node = one.node; count = one.node_library.applied; of_log = (subst (λ (n : Option ℕ). IsOfLog n (entries_of (log w one.node)) one.node_library) limit (of_log one b h)).library }
-      record { world = w; moment = moment; node = other.node; count = other.node_library.applied; of_log = (of_log other d k).library }
+      libraries_of_logs_agree (work_limit_of other) (log w one.node) (log w other.node) (goes.logs_agree w w (inr moment) (inr moment) one.node other.node) one.node_library.applied other.node_library.applied one.node_library.library other.node_library.library
+      (subst (λ (n : Option ℕ). IsOfLog n (entries_of (log w one.node)) one.node_library) limit (of_log one b h)).library (of_log other d k).library
 
 -- the statements of two cells of one switch with one limit on work agree
-pub cells_agree : (one other : Cell) (s : SwitchView Carried) → IsOk (world_of carried_size s) → Belongs one s → Belongs other s → work_limit_of one ≡ work_limit_of other → IsCell one → IsCell other → Agree one.node_library.library.statements other.node_library.library.statements
-cells_agree one other s ok b d limit h k = from (world_of carried_size s) refl ok where
+pub cells_agree : (one other : Cell) (s : SwitchView Carried) → RunBefore carried_size (history_of s) → IsOk (world_of carried_size s) → Belongs one s → Belongs other s → work_limit_of one ≡ work_limit_of other → IsCell one → IsCell other → Agree one.node_library.library.statements other.node_library.library.statements
+cells_agree one other s before ok b d limit h k = from (world_of carried_size s) refl ok where
   from : (r : Result (World Carried) StepFault) → world_of carried_size s ≡ r → IsOk r → Agree one.node_library.library.statements other.node_library.library.statements
-  from (Ok w) is ok = agree_in s w is one other b d limit h k
+  from (Ok w) is ok = agree_in s w is before one other b d limit h k
   from (Err fault) is ok = let no : false ≡ true = ok in cc
 
 -- The counts of statements decide which library is ahead.

@@ -10,7 +10,9 @@ pub use Rattle.library.specs.declared.verdict.Verdict.{Verdict}
 pub use Rattle.mm_read.specs.Statements.{Database}
 pub use Rattle.net.specs.Agree.{Agree, IsPrefixOf}
 pub use Rattle.net.specs.Agreement.{IsMoment}
+pub use Rattle.net.proofs.ResumedLemmas.{goes_on}
 pub use Rattle.net.specs.History.{History}
+pub use Rattle.net.specs.Resumed.{RunBefore, GoesOn}
 pub use Rattle.net.specs.World.{World, log, log_after}
 pub use Rattle.net.specs.declared.fault.StepFault.{StepFault}
 pub use Rattle.net.specs.declared.fault.StepFault.TheVariants.{NoNode}
@@ -21,15 +23,14 @@ pub use Rattle.std.proofs.lemmas.Bool.Decides.{nat_tests}
 pub use Rattle.std.specs.Borrow.{Bor}
 pub use Rattle.std.specs.Prelude.{IsOk, IsSome, MatchOption, is_err, option_map}
 pub use Rattle.switch.specs.LogPrefixes.{IsLogPrefix}
-pub use Rattle.switch.specs.Switch.{SwitchView, new_views, world_of}
+pub use Rattle.switch.specs.Switch.{StoreView, history_of, IsResumed, AreResumedStores, SwitchView, new_views, world_of}
 pub use Rattle.synod.specs.Record.{KeptPart, changed_by}
 pub use Rattle.synod.specs.declared.change.Change.{Change}
 pub use Rattle.synod.specs.declared.change.Change.TheVariants.{Promise, Round}
 pub use Rattle.synod.specs.declared.change.AcceptedEntry.{AcceptedEntry}
 pub use Rattle.world.proofs.EntryLogs.{entries_begin, entries_of-get, entries_of-none}
-pub use Rattle.world.proofs.HeadlineLemmas.{headline_holds}
+pub use Rattle.world.proofs.HeadlineLemmas.{libraries_of_logs_agree}
 pub use Rattle.world.proofs.WorldViewLemmas.{limit-applied, of_log_applied, of_longer}
 pub use Rattle.world.specs.Carried.{carried_size, entries_of, entry_of}
-pub use Rattle.world.specs.Headline.{Headline}
 pub use Rattle.world.specs.WorldView.{AppliesNext, IsOfLog, NodeLibrary}
 pub use Rattle.world.specs.declared.carried.Carried.{Carried}

@@ -5,10 +5,11 @@ ghost use Rattle.std.specs.Prelude.{slice_get, option_map, IsOk, IfOk, OnOk, OnE
 ghost use Rattle.std.specs.List.{AllByRecursion};
 ghost use Rattle.library.specs.Listed.{listed};
 ghost use Rattle.synod.specs.Record.{new_kept};
+ghost use Rattle.net.specs.World.{new_parts};
 ghost use Rattle.net.specs.declared.fault.StepFault.TheVariants.{NoNode, Memory};
 ghost use Rattle.world.specs.Carried.{carried_size};
 ghost use Rattle.world.specs.WorldView.{AppliesNext};
-ghost use Rattle.switch.specs.Switch.{new_views, world_of};
+ghost use Rattle.switch.specs.Switch.{new_views, world_of, IsResumed};
 ghost use Rattle.cluster.specs.Belongs.{Belongs, EachBelongs};
 ghost use Rattle.cluster.specs.Cells.{new_cells};
 ghost use Rattle.cluster.specs.Cell.{Cell, new_cell, IsCell, AddsEntry, TakesOver, next_entry};
@@ -240,12 +241,41 @@ pub fn cells<K: Keep<Carried>>(
     requires new { AllByRecursion (λ keep. K.kept keep ≡ new_kept) keeps.items }
     ensures switch { IfOk result
         (λ parts. parts.0
-        ≡ record { weights = weights; event_limit = event_limit; history = []; stores = new_views K.failures keeps.items }) }
+        ≡ record {
+          weights = weights;
+          event_limit = event_limit;
+          begins = new_parts weights;
+          history = [];
+          stores = new_views K.failures keeps.items;
+        }) }
     ensures cells { IfOk result (λ parts. parts.1.items ≡ new_cells work_limit 0 weights) }
     ensures belong { IfOk result (λ parts. EachBelongs parts.1.items parts.0) }
     ensures only_memory { IsOkUnless result Memory }
 {
     let switch = Switch::new(alloc, weights, event_limit, keeps)?;
+    let cells = cells_of(alloc, work_limit, weights)?;
+    Ok((switch, cells))
+}
+
+/// Creates a switch of nodes that begin with the records of their keeps, one for each weight, and
+/// new cells. The switch takes at most `event_limit` events. A node whose record cannot be loaded
+/// is down until a restart loads it.
+///
+/// Errors: `Memory`. Cost: loading each record.
+pub fn resume_cells<K: Keep<Carried>>(
+    alloc: Global,
+    weights: Weights,
+    event_limit: u64,
+    work_limit: Option<u64>,
+    keeps: Vec<K>,
+) -> Result<(Switch<Carried, K>, Vec<NodeCell>), StepFault>
+    requires { length keeps.items ≡ length weights }
+    ensures switch { IfOk result (λ parts. IsResumed K.kept K.failures weights event_limit keeps.items parts.0) }
+    ensures cells { IfOk result (λ parts. parts.1.items ≡ new_cells work_limit 0 weights) }
+    ensures belong { IfOk result (λ parts. EachBelongs parts.1.items parts.0) }
+    ensures only_memory { IsOkUnless result Memory }
+{
+    let switch = Switch::resume(alloc, weights, event_limit, keeps)?;
     let cells = cells_of(alloc, work_limit, weights)?;
     Ok((switch, cells))
 }

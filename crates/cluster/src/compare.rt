@@ -1,5 +1,8 @@
 //! Which of two cells of one switch is ahead.
 ghost use Rattle.net.specs.Agree.{Agree};
+ghost use Rattle.net.specs.Resumed.{RunBefore};
+ghost use Rattle.switch.specs.Switch.{history_of};
+ghost use Rattle.world.specs.Carried.{carried_size};
 ghost use Rattle.std.specs.Prelude.{◌≡◌};
 ghost use Rattle.cluster.specs.Belongs.{Belongs, IsAhead};
 ghost use Rattle.cluster.specs.Cell.{work_limit_of};
@@ -22,8 +25,8 @@ pub enum Ahead {
 }
 
 /// Returns which of two cells that belong to one switch and have one limit on work has the library
-/// with more statements, if one has. The statements of the other are a prefix of them. It does not
-/// allocate.
+/// with more statements, if one has. The statements of the other are a prefix of them, if the nodes
+/// began with what an earlier run left, as new ones do. It does not allocate.
 ///
 /// Cost: constant; the two counts are compared.
 pub fn compare_on<K: Keep<Carried>>(
@@ -34,7 +37,8 @@ pub fn compare_on<K: Keep<Carried>>(
     requires one { Belongs one.now switch.now }
     requires other { Belongs other.now switch.now }
     requires limit { work_limit_of one.now ≡ work_limit_of other.now }
-    ensures { IsAhead result one.now.node_library.library.statements other.now.node_library.library.statements }
+    ensures { RunBefore carried_size (history_of switch.now)
+        → IsAhead result one.now.node_library.library.statements other.now.node_library.library.statements }
 {
     // The switch has the node of `one`, so this call of `entry` succeeds; its clause
     // `history_taken` states that the history of the switch is taken.
@@ -42,11 +46,11 @@ pub fn compare_on<K: Keep<Carried>>(
     ahead_of(one.library(), other.library())
 }
 
-/// Returns which of two libraries has more statements. The statements of one have to be a prefix of
+/// Returns which of two libraries has more statements, if the statements of one are a prefix of
 /// those of the other.
 fn ahead_of(one: &Library, other: &Library) -> Ahead
-    requires { Agree one.now.replica.statements other.now.replica.statements }
-    ensures { IsAhead result one.now.replica.statements other.now.replica.statements }
+    ensures { Agree one.now.replica.statements other.now.replica.statements
+        → IsAhead result one.now.replica.statements other.now.replica.statements }
 {
     let first = one.statements().len();
     let second = other.statements().len();

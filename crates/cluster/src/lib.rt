@@ -27,7 +27,7 @@ mod log;
 mod memory_keep;
 
 pub use asking::{ask_on, outcome_on};
-pub use cell::{NodeCell, apply_on, apply_on_with, belongs, cells, list_on, take_on};
+pub use cell::{NodeCell, apply_on, apply_on_with, belongs, cells, list_on, resume_cells, take_on};
 pub use compare::{Ahead, compare_on};
 pub use events::{begin_on, deliver_on, offer_on, restart_on};
 pub use memory_keep::MemoryKeep;

@@ -5,8 +5,8 @@ use crate::grammar::{commands, matches_of};
 use crate::hints::push_hint;
 use crate::picture_options::pictured_steps;
 use crate::request::{
-    CommandLineFault, DatabaseQuestion, PlayOptions, ProofForm, ProofQuestion, Question, Request,
-    ServeOptions, SiteRequest, WorkRequest,
+    CommandLineFault, DatabaseQuestion, PlayOptions, ProofForm, ProofQuestion, ProofTextForm,
+    Question, Request, ServeOptions, SiteRequest, WorkRequest,
 };
 use crate::weights::{WorkerCount, parse_weights};
 use clap::error::ErrorKind;
@@ -141,7 +141,7 @@ fn question<'a>(
         "check" if options.get_flag("all") => Question::CheckEach,
         "check" => Question::Check,
         "list" => Question::List,
-        "export" => Question::Export,
+        "export" => Question::Export(proof_text_form(options)),
         "tree" => Question::Tree(label),
         "trace" => Question::Trace(label),
         "usage" => Question::Usage {
@@ -191,12 +191,25 @@ fn search_query<'a>(
 
 /// Returns the form that the options of `proof` give.
 fn proof_form(options: &ArgMatches) -> ProofForm {
-    if options.get_flag("dot") {
+    if let Some(form) = proof_text_form(options) {
+        ProofForm::Text(form)
+    } else if options.get_flag("dot") {
         ProofForm::Picture
     } else if options.get_flag("html") {
         ProofForm::Page
     } else {
         ProofForm::Steps
+    }
+}
+
+/// Returns the form of proofs as text that the options give, if they give one.
+fn proof_text_form(options: &ArgMatches) -> Option<ProofTextForm> {
+    if options.get_flag("normal") {
+        Some(ProofTextForm::Normal)
+    } else if options.get_flag("compressed") {
+        Some(ProofTextForm::Compressed)
+    } else {
+        None
     }
 }
 

@@ -20,6 +20,8 @@ enum ArgumentForm {
     Flag,
     /// An option without a value, which conflicts with another option.
     FlagWithout(&'static str),
+    /// An option without a value, which conflicts with each of these options.
+    FlagWithoutAny(&'static [&'static str]),
     /// An option that must be given, with the name of its value.
     Required(&'static str),
     /// An option with the name of its value.
@@ -192,6 +194,30 @@ const HTML: Argument = Argument {
     help: "A page that stands alone",
 };
 
+const NORMAL: Argument = Argument {
+    name: "normal",
+    form: ArgumentForm::FlagWithoutAny(&["compressed", "essential", "dot", "html"]),
+    help: "The $p with its proof in normal form, to paste into a database",
+};
+
+const COMPRESSED: Argument = Argument {
+    name: "compressed",
+    form: ArgumentForm::FlagWithoutAny(&["essential", "dot", "html"]),
+    help: "The $p with its proof in compressed form, to paste into a database",
+};
+
+const EXPORT_NORMAL: Argument = Argument {
+    name: "normal",
+    form: ArgumentForm::FlagWithout("compressed"),
+    help: "Each $p with its proof in normal form, in lines of at most 79 bytes",
+};
+
+const EXPORT_COMPRESSED: Argument = Argument {
+    name: "compressed",
+    form: ArgumentForm::Flag,
+    help: "Each $p with its proof in compressed form, in lines of at most 79 bytes",
+};
+
 /// A command: its name, its usage, its help, and its arguments.
 struct CommandDefinition(
     &'static str,
@@ -229,7 +255,7 @@ const COMMANDS: [CommandDefinition; 15] = [
         "export",
         "mmlib export < DATABASE",
         "Print the database on standard input in the export form: mmlib export < set.mm",
-        &[ASSUME, NAME],
+        &[EXPORT_NORMAL, EXPORT_COMPRESSED, ASSUME, NAME],
     ),
     CommandDefinition(
         "tree",
@@ -253,7 +279,9 @@ const COMMANDS: [CommandDefinition; 15] = [
         "proof",
         "mmlib proof LABEL < DATABASE",
         "Print the steps of the proof of a $p of the database on standard input: mmlib proof id --essential < set.mm",
-        &[LABEL, ESSENTIAL, DOT, HTML, ASSUME, NAME],
+        &[
+            LABEL, ESSENTIAL, DOT, HTML, NORMAL, COMPRESSED, ASSUME, NAME,
+        ],
     ),
     CommandDefinition(
         "extract",
@@ -353,6 +381,7 @@ fn clap_argument<'a>(alloc: Global, argument: &Argument) -> Result<Arg<'a>, Allo
         ),
         ArgumentForm::Flag => Ok(flag(arg, argument.name)),
         ArgumentForm::FlagWithout(other) => flag(arg, argument.name).conflicts_with(other),
+        ArgumentForm::FlagWithoutAny(others) => flag(arg, argument.name).conflicts_with_all(others),
         ArgumentForm::Required(value) => Ok(option(arg, argument.name, value).required(true)),
         ArgumentForm::Optional(value) => Ok(option(arg, argument.name, value)),
         ArgumentForm::OptionalWith(value, other) => option(arg, argument.name, value).requires_arg(

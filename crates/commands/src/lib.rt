@@ -47,7 +47,7 @@ pub use offered_entry::OfferedEntry;
 pub use play_line::PlayLine;
 pub use request::{
     CommandLineFault, DatabaseQuestion, PicturedSteps, PlayOptions, ProofForm, ProofQuestion,
-    Question, Request, ServeOptions, SiteRequest, WorkRequest,
+    ProofTextForm, Question, Request, ServeOptions, SiteRequest, WorkRequest,
 };
 pub use script::{LINE_FEED, Line, LineFault, ScriptFault, parse_script};
 pub use script_help::{SERVE_LINES_HELP, expected_form, first_word};

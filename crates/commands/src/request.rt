@@ -106,8 +106,9 @@ pub enum Question<'a> {
     CheckEach,
     /// `list`: its assertions.
     List,
-    /// `export`: its statements, in the export form.
-    Export,
+    /// `export`: its statements, in the export form; with a form of proofs each `$p` as `proof`
+    /// prints it in that form.
+    Export(Option<ProofTextForm>),
     /// `tree`: the derivation of the `$p` with the label.
     Tree(&'a [u8]),
     /// `trace`: the `$a` that the `$p` with the label rests on, directly or through other `$p`.
@@ -146,6 +147,17 @@ pub enum ProofForm {
     Picture,
     /// `--html`: a page that needs no other file.
     Page,
+    /// The `$p` with its proof as text.
+    Text(ProofTextForm),
+}
+
+/// The form of a proof as text.
+#[derive(Clone, Copy, Debug, Drop, PartialEq, Eq)]
+pub enum ProofTextForm {
+    /// `--normal`: a list of labels.
+    Normal,
+    /// `--compressed`: labels and letters.
+    Compressed,
 }
 
 /// Why the words of a command line are not parsed.

@@ -1,27 +1,29 @@
 -- A keep in a file: what the file says, and what a crash leaves.
 -- Source: Lamport, Paxos Made Simple, 2.5; the transactions of the kit's SQLite.
 -- The code keeps the record in memory too, so that what a load returns does not rest on the disk.
-use Rattle.std.specs.Prelude.{◌≡◌, ◌⊎◌, ◌+◌, ℕ, Bool, true, false, List, Some, IsTrue}
+use Rattle.std.specs.Prelude.{◌≡◌, ◌⊎◌, ◌+◌, ℕ, Bool, true, false, List, Option, Some, None, IsTrue}
 use Rattle.file_keep.specs.Words.{changed, Change, AcceptedEntry, Value, Trees, put_row, View, IsClean, trimmed, entry_at}
 use Rattle.file_keep.specs.Rows.{Content, Says, ballot_columns, text_columns, row_at, node_row}
 use Rattle.file_keep.specs.Tables.{HasTrees, PutsNode}
 use Rattle.file_keep.specs.declared.rows.TheConstants.{ACCEPTED, TEXTS, NODE}
 use Rattle.file_keep.specs.declared.file_keep.Standing.{Standing}
-use Rattle.file_keep.specs.declared.file_keep.Standing.TheVariants.{Settled, Unread, Unwritten, UnwrittenEntry}
+use Rattle.file_keep.specs.declared.file_keep.Standing.TheVariants.{Settled, Written, Unread, Unwritten}
 use Rattle.synod.specs.declared.change.Change.TheVariants.{Round, Promise, Entry}
 
--- A keep as contracts see it: its store; what the file says once the keep is settled; whether it
--- is; and how many of its calls failed.
+-- A keep as contracts see it: its store; its content, which is the record that it has in memory;
+-- whether the last commit says it; and how many of the keep's calls failed.
 pub record KeepView (V S : Type 0) : Type 0 where
   pub store : S
   pub content : Content V
   pub is_settled : Bool
   pub failures : ℕ
 
--- a keep with a witness: the keep, and the number of changes that the witness tells
+-- a keep with a witness: the keep, the number of changes that the witness tells, and how often a
+-- note failed
 pub record WitnessedView (V S : Type 0) : Type 0 where
   pub keep : KeepView V S
   pub noted : ℕ
+  pub failed_notes : ℕ
 
 -- the content with one more change
 abbrev pub with_change : {V : Type 0} → Content V → Change V → Content V
@@ -31,17 +33,24 @@ with_change content change = record { kept = changed content.kept change; change
 
 abbrev pub is_settled : Standing → Bool
 is_settled Settled = true
+is_settled Written = false
 is_settled Unread = false
 is_settled Unwritten = false
-is_settled (UnwrittenEntry slot) = false
 
--- what a change leaves to be written
-abbrev pub standing_after : {V : Type 0} → Change V → Standing
-standing_after (Round r) = Unwritten
-standing_after (Promise b) = Unwritten
-standing_after (Entry slot entry) = UnwrittenEntry slot
+-- what the transaction sees is the record
+abbrev pub is_written : Standing → Bool
+is_written Settled = true
+is_written Written = true
+is_written Unread = false
+is_written Unwritten = false
 
--- the last commit says the content, and no transaction has begun to write
+-- the slot whose entry a change sets
+abbrev pub changed_slot : {V : Type 0} → Change V → Option ℕ
+changed_slot (Round r) = None
+changed_slot (Promise b) = None
+changed_slot (Entry slot entry) = Some slot
+
+-- the last commit says the content, and nothing was written since
 pub record IsSettledAt {V : Type 0} (columns : V → List Value) (v : View) (content : Content V) : Type 0 where
   pub was_open : IsTrue v.is_open
   pub sound : v.is_broken ≡ false
@@ -52,6 +61,12 @@ pub record IsSettledAt {V : Type 0} (columns : V → List Value) (v : View) (con
 pub record IsKeep {V S : Type 0} (view : S → View) (columns : V → List Value) (store : S) (standing : Standing) (content : Content V) : Type 0 where
   pub trees : IsClean (view store) → HasTrees (view store)
   pub settled : IsTrue (is_settled standing) → IsClean (view store) → IsSettledAt columns (view store) content
+  pub written : IsTrue (is_written standing) → IsClean (view store) → Says columns (view store).trees content
+  pub whole : trimmed content.kept.accepted ≡ content.kept.accepted
+
+-- the invariant of a keep whose file is closed
+pub record IsClosed {V : Type 0} (standing : Standing) (content : Content V) : Type 0 where
+  pub unknown : is_written standing ≡ false
   pub whole : trimmed content.kept.accepted ≡ content.kept.accepted
 
 -- the rows of the slot and of the node were put
@@ -61,12 +76,10 @@ pub record WritesEntry {V : Type 0} (columns : V → List Value) (old new : View
       (new.trees TEXTS ≡ put_row (row_at slot (text_columns columns entry)) (old.trees TEXTS))
   pub node : new.trees NODE ≡ put_row (node_row content) (old.trees NODE)
 
--- what is unwritten was put
-abbrev pub Writes : {V : Type 0} → (V → List Value) → View → View → Standing → Content V → Type 0
-Writes columns old new Settled content = new.trees ≡ old.trees
-Writes columns old new Unread content = new.trees ≡ old.trees
-Writes columns old new Unwritten content = PutsNode old new (node_row content)
-Writes columns old new (UnwrittenEntry slot) content = WritesEntry columns old new slot content
+-- the rows of a change were put: those of its slot, and that of the node
+abbrev pub Writes : {V : Type 0} → (V → List Value) → View → View → Option ℕ → Content V → Type 0
+Writes columns old new None content = PutsNode old new (node_row content)
+Writes columns old new (Some slot) content = WritesEntry columns old new slot content
 
 -- What a crash leaves, and what a file says after it.
 
@@ -79,6 +92,10 @@ pub record IsDurable {V S : Type 0} (view : S → View) (recovers : S → Trees 
   pub settled : IsTrue keep.is_settled
   pub says : IsClean (view keep.store) → Says columns (view keep.store).committed keep.content
   pub crash : IsClean (view keep.store) → LeavesOnly recovers columns keep.store keep.content
+
+-- the open transaction says the content of the keep, so the next commit makes it durable
+abbrev pub IsWritten : {V S : Type 0} → (S → View) → (V → List Value) → KeepView V S → Type 0
+IsWritten view columns keep = IsClean (view keep.store) → Says columns (view keep.store).trees keep.content
 
 -- after a call a crash leaves what it might have left before the call, or the content
 abbrev pub LeavesOr : {V S : Type 0} → (S → View) → (S → Trees → Type 0) → (V → List Value) → S → S → Content V → Type 0

@@ -1,5 +1,5 @@
 pub mod Words
 pub mod Rows
-pub mod EntryColumns
 pub mod Tables
 pub mod Keeps
+pub mod NodeKeeps

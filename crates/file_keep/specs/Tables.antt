@@ -6,7 +6,13 @@ use Rattle.file_keep.specs.Words.{AcceptedEntry, Row, Value, Trees, put_row, wit
 use Rattle.file_keep.specs.Rows.{ballot_columns, row_at, text_columns}
 use Rattle.file_keep.specs.declared.rows.TheConstants.{ACCEPTED, TEXTS, NODE}
 
--- the store has the three trees, and the last commit left no others
+-- the store has the three trees
+pub record HasTables (v : View) : Type 0 where
+  pub accepted : v.shape ACCEPTED ≡ Table
+  pub texts : v.shape TEXTS ≡ Table
+  pub node : v.shape NODE ≡ Table
+
+-- the same, and the last commit left no others
 pub record HasTrees (v : View) : Type 0 where
   pub accepted : v.shape ACCEPTED ≡ Table
   pub texts : v.shape TEXTS ≡ Table

@@ -6,19 +6,22 @@
 //! with the promise, the round and the number of changes. A *content* is what they say. A change is
 //! one transaction.
 //!
-//! Reading order: `stored_value`, `rows`, `carried_columns`, `tables`, `reading`,
-//! `file_keep`, `witness`.
+//! Reading order: `value_columns`, `rows`, `tables`, `reading`, `file_keep`, `witness`,
+//! `node_keep`, `marks`.
 #![tactic(auto)]
 
-mod carried_columns;
 mod file_keep;
+mod marks;
+mod node_keep;
 mod reading;
 mod rows;
-mod stored_value;
 mod tables;
+mod value_columns;
 mod witness;
 
 pub use file_keep::FileKeep;
-pub use rows::{ACCEPTED, NODE, TEXTS};
-pub use stored_value::StoredValue;
+pub use marks::{has_tables, mark_store};
+pub use node_keep::{NodeKeep, Opener};
+pub use rows::{ACCEPTED, NODE, TEXTS, push_number};
+pub use value_columns::ValueColumns;
 pub use witness::{Witness, WitnessedKeep};

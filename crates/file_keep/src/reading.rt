@@ -6,15 +6,15 @@ ghost use Rattle.sqlite_trees.specs.View.{IsClean, StayLive};
 ghost use Rattle.file_keep.specs.Tables.{HasTrees, Keeps};
 
 use crate::rows::{ACCEPTED, NODE, TEXTS};
-use crate::stored_value::StoredValue;
 use crate::tables::Tables;
+use crate::value_columns::ValueColumns;
 use slots::SLOTS;
 use sqlite_trees::error::StoreError;
 use sqlite_trees::store::Store;
 use sqlite_value::row::Row;
 use sqlite_value::value::ValueRef;
 use std::alloc::Global;
-use synod::{AcceptedEntry, Ballot, Change, Record};
+use synod::{AcceptedEntry, Ballot, Change, Record, Value};
 
 /// Returns the unsigned number in a column.
 ///
@@ -54,20 +54,23 @@ fn slot_at(row: &Row) -> Result<u32, StoreError>
 /// Returns the value that a row of the tree `TEXTS` says; `None` is the no-operation.
 ///
 /// Errors: an allocation fails; `Corrupt` if it says none.
-fn value_of<V: StoredValue>(alloc: Global, row: &Row) -> Result<Option<V>, StoreError> {
+fn value_of<V: Value, C: ValueColumns<V>>(
+    alloc: Global,
+    row: &Row,
+) -> Result<Option<V>, StoreError> {
     if row.len() <= 2 {
         return Ok(None);
     }
-    match V::read(alloc, row)? {
+    match C::read(alloc, row)? {
         Some(value) => Ok(Some(value)),
         None => Err(StoreError::Corrupt),
     }
 }
 
 /// Reads the next accepted entry into the record, or returns false at the end.
-fn read_entry<V: StoredValue, S: Store + Drop>(
+fn read_entry<V: Value, C: ValueColumns<V>, S: Store + Drop>(
     alloc: Global,
-    tables: &mut Tables<S>,
+    tables: &mut Tables<V, C, S>,
     stored: &mut Record<V>,
 ) -> Result<bool, StoreError>
     requires cursor { IsSome ((S.view tables.old.store).cursors 0) }
@@ -85,14 +88,14 @@ fn read_entry<V: StoredValue, S: Store + Drop>(
     if !tables.read(TEXTS, slot)? {
         return Err(StoreError::Corrupt);
     }
-    let value = value_of(alloc, tables.found())?;
+    let value = value_of::<V, C>(alloc, tables.found())?;
     let entry = AcceptedEntry { ballot, value };
     put_entry(stored, slot, entry)?;
     Ok(true)
 }
 
 /// Puts an entry into the record.
-fn put_entry<V: StoredValue>(
+fn put_entry<V: Value>(
     stored: &mut Record<V>,
     slot: u32,
     entry: AcceptedEntry<V>,
@@ -107,9 +110,9 @@ fn put_entry<V: StoredValue>(
 }
 
 /// Reads all accepted entries into the record.
-fn read_entries<V: StoredValue, S: Store + Drop>(
+fn read_entries<V: Value, C: ValueColumns<V>, S: Store + Drop>(
     alloc: Global,
-    tables: &mut Tables<S>,
+    tables: &mut Tables<V, C, S>,
     stored: &mut Record<V>,
 ) -> Result<(), StoreError>
     requires trees { IsClean (S.view tables.old.store) → HasTrees (S.view tables.old.store) }
@@ -131,9 +134,9 @@ fn read_entries<V: StoredValue, S: Store + Drop>(
 /// no change.
 ///
 /// Errors: the store or an allocation fails; `Corrupt` if the trees say no record.
-pub(crate) fn read_content<V: StoredValue, S: Store + Drop>(
+pub(crate) fn read_content<V: Value, C: ValueColumns<V>, S: Store + Drop>(
     alloc: Global,
-    tables: &mut Tables<S>,
+    tables: &mut Tables<V, C, S>,
     stored: &mut Record<V>,
 ) -> Result<u64, StoreError>
     requires trees { IsClean (S.view tables.old.store) → HasTrees (S.view tables.old.store) }

@@ -4,11 +4,11 @@ ghost use Rattle.sqlite_value.specs.declared.value.Value.TheVariants.{Int};
 ghost use Rattle.file_keep.specs.Rows.{number, row_at, ballot_columns, columns_in, node_row_of};
 ghost use Rattle.file_keep.specs.Rows.{number_of, text_columns};
 
-use crate::stored_value::StoredValue;
+use crate::value_columns::ValueColumns;
 use sqlite_value::row::Row;
 use sqlite_value::value::ValueRef;
 use std::alloc::{AllocError, Global};
-use synod::{AcceptedEntry, Ballot};
+use synod::{AcceptedEntry, Ballot, Value};
 
 /// The tree of the ballots of the accepted entries, by slot.
 pub const ACCEPTED: u32 = 0;
@@ -38,18 +38,18 @@ impl SlotTree {
     }
 
     /// Writes the row of an accepted entry over `row`.
-    pub fn write<V: StoredValue>(
+    pub fn write<V: Value, C: ValueColumns<V>>(
         self,
         alloc: Global,
         row: &mut Row,
         slot: u32,
         entry: &AcceptedEntry<V>,
     ) -> Result<(), AllocError>
-        ensures { OnOk result (row.new ≡ row_at slot (columns_in V.columns self entry.now)) }
+        ensures { OnOk result (row.new ≡ row_at slot (columns_in C.columns self entry.now)) }
     {
         match self {
             SlotTree::Accepted => write_ballot(row, slot, entry),
-            SlotTree::Texts => write_text(alloc, row, slot, entry),
+            SlotTree::Texts => write_text::<V, C>(alloc, row, slot, entry),
         }
     }
 }
@@ -64,7 +64,7 @@ fn begin_row(row: &mut Row, id: u32) -> Result<(), AllocError>
 }
 
 /// Appends an unsigned number.
-pub(crate) fn push_number(row: &mut Row, n: u64) -> Result<(), AllocError>
+pub fn push_number(row: &mut Row, n: u64) -> Result<(), AllocError>
     ensures { OnOk result (row.new ≡ row.old ++ number n ∷ []) }
 {
     row.push(ValueRef::Int(n.cast_signed()))
@@ -79,7 +79,7 @@ fn push_ballot(row: &mut Row, ballot: Ballot) -> Result<(), AllocError>
 }
 
 /// Writes the row of an accepted entry in the tree `ACCEPTED` over `row`.
-fn write_ballot<V: StoredValue>(
+fn write_ballot<V: Value>(
     row: &mut Row,
     slot: u32,
     entry: &AcceptedEntry<V>,
@@ -91,17 +91,17 @@ fn write_ballot<V: StoredValue>(
 }
 
 /// Writes the row of an accepted entry in the tree `TEXTS` over `row`.
-fn write_text<V: StoredValue>(
+fn write_text<V: Value, C: ValueColumns<V>>(
     alloc: Global,
     row: &mut Row,
     slot: u32,
     entry: &AcceptedEntry<V>,
 ) -> Result<(), AllocError>
-    ensures { OnOk result (row.new ≡ row_at slot (text_columns V.columns entry.now)) }
+    ensures { OnOk result (row.new ≡ row_at slot (text_columns C.columns entry.now)) }
 {
     begin_row(row, slot)?;
     match &entry.value {
-        Some(value) => value.write(alloc, row),
+        Some(value) => C::write(value, alloc, row),
         None => Ok(()),
     }
 }

@@ -11,25 +11,28 @@ ghost use Rattle.file_keep.specs.Tables.{Ends, Gives, HasTrees, IsCommitted, Kee
 ghost use Rattle.file_keep.specs.Tables.{LeavesTrees, PutsEntry, PutsNode, PutsRow, Reads, Scans};
 
 use crate::rows::{ACCEPTED, NODE, SlotTree, TEXTS, write_node};
-use crate::stored_value::StoredValue;
+use crate::value_columns::ValueColumns;
 use sqlite_trees::error::StoreError;
 use sqlite_trees::store::{Direction, Store};
 use sqlite_value::row::Row;
 use std::alloc::Global;
-use synod::{AcceptedEntry, Ballot, Record};
+use std::marker::PhantomData;
+use synod::{AcceptedEntry, Ballot, Record, Value};
 
 /// A store with the three trees, and two rows that are used again and again.
 #[derive(Drop)]
-pub(crate) struct Tables<S: Store + Drop> {
+pub(crate) struct Tables<V: Value, C: ValueColumns<V>, S: Store + Drop> {
     alloc: Global,
     pub store: S,
     /// The row that is put or expected.
     row: Row,
     /// The row that was read.
     found: Row,
+    /// The columns that say a value.
+    form: PhantomData<(V, C)>,
 }
 
-impl<S: Store + Drop> Tables<S> {
+impl<V: Value, C: ValueColumns<V>, S: Store + Drop> Tables<V, C, S> {
     /// Takes a store that has the three trees.
     pub fn new(alloc: Global, store: S) -> Self
         ensures { result.store ≡ store }
@@ -39,6 +42,7 @@ impl<S: Store + Drop> Tables<S> {
             store,
             row: Row::new(alloc),
             found: Row::new(alloc),
+            form: PhantomData,
         }
     }
 
@@ -126,7 +130,7 @@ impl<S: Store + Drop> Tables<S> {
     /// Reads the row of a slot of a tree, if the record has an entry there.
     ///
     /// Errors: `Corrupt` if the tree has another row or none.
-    fn expect_slot<V: StoredValue>(
+    fn expect_slot(
         &mut self,
         tree: SlotTree,
         source: &Record<V>,
@@ -135,27 +139,24 @@ impl<S: Store + Drop> Tables<S> {
         requires { IsSome ((S.view self.old.store).cursors 0) }
         ensures next { OnOk result
             (IsClean (S.view self.new.store) → Gives (S.view self.old.store) (S.view self.new.store)
-            (rows_of (columns_in V.columns tree) slot (entry_at source.now.kept.accepted slot))) }
+            (rows_of (columns_in C.columns tree) slot (entry_at source.now.kept.accepted slot))) }
         ensures live { OnOk result (IsSome ((S.view self.new.store).cursors 0)) }
         ensures keeps { Keeps S.view S.recovers self.old.store self.new.store }
     {
         let Some(entry) = source.get(slot) else {
             return Ok(());
         };
-        tree.write(self.alloc, &mut self.row, slot, entry)?;
+        tree.write::<V, C>(self.alloc, &mut self.row, slot, entry)?;
         self.expect()
     }
 
     /// Reads whether a tree has the rows of a record, and no others.
     ///
     /// Errors: `Corrupt` if it has not.
-    fn check_tree<V: StoredValue>(
-        &mut self,
-        tree: SlotTree,
-        source: &Record<V>,
-    ) -> Result<(), StoreError>
+    fn check_tree(&mut self, tree: SlotTree, source: &Record<V>) -> Result<(), StoreError>
         ensures says { OnOk result (IsClean (S.view self.new.store) →
-            (S.view self.old.store).trees (number_of tree) ≡ rows_from (columns_in V.columns tree) 0 source.now.kept.accepted) }
+            (S.view self.old.store).trees (number_of tree)
+            ≡ rows_from (columns_in C.columns tree) 0 source.now.kept.accepted) }
         ensures same { OnOk result
             (IsClean (S.view self.new.store) → Reads (S.view self.old.store) (S.view self.new.store)) }
         ensures keeps { Keeps S.view S.recovers self.old.store self.new.store }
@@ -187,14 +188,10 @@ impl<S: Store + Drop> Tables<S> {
     /// Reads whether the trees say this record and this number of changes.
     ///
     /// Errors: `Corrupt` if they do not.
-    pub fn check<V: StoredValue>(
-        &mut self,
-        source: &Record<V>,
-        changes: u64,
-    ) -> Result<(), StoreError>
+    pub fn check(&mut self, source: &Record<V>, changes: u64) -> Result<(), StoreError>
         ensures says { OnOk result
             (IsClean (S.view self.new.store)
-            → Says V.columns (S.view self.old.store).trees record { kept = source.now.kept; changes = changes }) }
+            → Says C.columns (S.view self.old.store).trees record { kept = source.now.kept; changes = changes }) }
         ensures same { OnOk result
             (IsClean (S.view self.new.store) → Reads (S.view self.old.store) (S.view self.new.store)) }
         ensures keeps { Keeps S.view S.recovers self.old.store self.new.store }
@@ -205,20 +202,16 @@ impl<S: Store + Drop> Tables<S> {
     }
 
     /// Puts the rows of a slot.
-    pub fn put_entry<V: StoredValue>(
-        &mut self,
-        slot: u32,
-        entry: &AcceptedEntry<V>,
-    ) -> Result<(), StoreError>
+    pub fn put_entry(&mut self, slot: u32, entry: &AcceptedEntry<V>) -> Result<(), StoreError>
         requires { IsClean (S.view self.old.store) → HasTrees (S.view self.old.store) }
         ensures put { OnOk result
             (IsClean (S.view self.new.store)
-            → PutsEntry V.columns (S.view self.old.store) (S.view self.new.store) slot entry.now) }
+            → PutsEntry C.columns (S.view self.old.store) (S.view self.new.store) slot entry.now) }
         ensures keeps { Keeps S.view S.recovers self.old.store self.new.store }
     {
-        SlotTree::Accepted.write(self.alloc, &mut self.row, slot, entry)?;
+        SlotTree::Accepted.write::<V, C>(self.alloc, &mut self.row, slot, entry)?;
         self.put(ACCEPTED, slot)?;
-        SlotTree::Texts.write(self.alloc, &mut self.row, slot, entry)?;
+        SlotTree::Texts.write::<V, C>(self.alloc, &mut self.row, slot, entry)?;
         self.put(TEXTS, slot)
     }
 

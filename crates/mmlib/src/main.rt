@@ -2,7 +2,8 @@
 //! streams to the crate `program`, which does the rest.
 #![tactic(auto)]
 
-use program::{Fault, print, run};
+use program::run;
+use questions::{Fault, print};
 use sites::SystemFolder;
 use std::alloc::{AllocError, Global};
 use std::process::ExitCode;

@@ -1,7 +1,8 @@
 -- A crash of all nodes: the run before it, the restarts, and the run after it are one run.
 use Rattle.net.proofs.Words.{◌≡◌, ℕ, suc, ◌+◌, ◌<◌, ◌≤◌, Bool, true, false, ◌==◌, List, [], ◌∷◌, ◌++◌, Option, Some, None, Result, Ok, Err, if◌then◌else◌, refl, ap, sym, ◌∙◌, subst, arith, append-nil, append_assoc, length, length-map, map, slice_get, set, nat_tests, KeptPart, Node, Packet, Refusal, StepResult, kept_of, offer_result, begin_result, on_packet, restarted, Event, Offer, Begin, Deliver, Restart, StepFault, EventsSpent, World, start, after_step, after_step_or_fault, at_node, delivered, event_result_without_limit, event_result, events_result, after, log_at, IsAfter, LogsAgree, Agree}
 use Rattle.synod.specs.Node.{restarted_node}
-use Rattle.net.specs.Crash.{kept_parts, nodes_with, resumed, restarts_from, shifted, IsOneRun, CrashesOnlyRestart, LogsAgreeAcrossCrash}
+use Rattle.net.specs.World.{new_parts, nodes_with, resumed}
+use Rattle.net.specs.Crash.{kept_parts, restarts_from, shifted, IsOneRun, CrashesOnlyRestart, LogsAgreeAcrossCrash}
 use Rattle.net.proofs.Ledger.{Ledger}
 use Rattle.net.proofs.Invariant.{NodesHold}
 use Rattle.net.proofs.EveryEvent.{IfTaken, if_taken, holds_after}
@@ -109,10 +110,11 @@ unshifted (Begin k ∷ es) = ap (λ ds. Begin k ∷ ds) (unshifted es)
 unshifted (Deliver number ∷ es) = let e : 0 + number ≡ number = omega arith in rw e (ap (λ ds. Deliver number ∷ ds) (unshifted es))
 unshifted (Restart k ∷ es) = ap (λ ds. Restart k ∷ ds) (unshifted es)
 
--- a world with the same nodes, that is after these events under the greater limit
-pub record IsRaised {V : Type 0} (size : V → ℕ) (weights : List ℕ) (total : ℕ) (events : List (Event V)) (w : World V) : Type 0 where
+-- a world with the same nodes, that is after these events under the greater limit; the nodes began
+-- with these parts
+pub record IsRaised {V : Type 0} (size : V → ℕ) (weights : List ℕ) (parts : List (KeptPart V)) (total : ℕ) (events : List (Event V)) (w : World V) : Type 0 where
   pub world : World V
-  pub is_after : IsAfter size weights total events world
+  pub is_after : events_result size events (Ok (resumed weights total parts)) ≡ Ok world
   pub nodes : world.nodes ≡ w.nodes
   pub packets : world.packets ≡ w.packets
   pub count : world.event_count ≡ w.event_count
@@ -121,14 +123,14 @@ pub record IsRaised {V : Type 0} (size : V → ℕ) (weights : List ℕ) (total 
   pub total_is : world.event_limit ≡ total
   pub limit_is : w.event_limit ≤ total
 
-pub raised : {V : Type 0} (size : V → ℕ) (weights : List ℕ) (limit total : ℕ) (events : List (Event V)) (w : World V) → limit ≤ total → IsAfter size weights limit events w → IsRaised size weights total events w
-raised {V} size weights limit total events w more is_after =
+pub raised : {V : Type 0} (size : V → ℕ) (weights : List ℕ) (parts : List (KeptPart V)) (limit total : ℕ) (events : List (Event V)) (w : World V) → limit ≤ total → events_result size events (Ok (resumed weights limit parts)) ≡ Ok w → IsRaised size weights parts total events w
+raised {V} size weights parts limit total events w more is_after =
     let room : 0 + limit ≤ total = omega arith in
-    let begin : Follows size 0 limit total [] room (start weights limit) (start weights total) = record { weights = refl; nodes = refl; packets = refl; counted = refl; few = omega arith; limit_is = refl; total_is = refl } in
-    let m = if_taken (Meets size 0 limit total [] room (events_result size (map (shifted 0) events) (Ok (start weights total)))) (after size weights limit events) w is_after (meets_all size 0 limit total [] room events (start weights limit) (start weights total) begin) in
+    let begin : Follows size 0 limit total [] room (resumed weights limit parts) (resumed weights total parts) = record { weights = refl; nodes = refl; packets = refl; counted = refl; few = omega arith; limit_is = refl; total_is = refl } in
+    let m = if_taken (Meets size 0 limit total [] room (events_result size (map (shifted 0) events) (Ok (resumed weights total parts)))) (events_result size events (Ok (resumed weights limit parts))) w is_after (meets_all size 0 limit total [] room events (resumed weights limit parts) (resumed weights total parts) begin) in
     record {
       world = m.world;
-      is_after = ap (λ (es : List (Event V)). after size weights total es) (sym (unshifted events)) ∙ m.is;
+      is_after = ap (λ (es : List (Event V)). events_result size es (Ok (resumed weights total parts))) (sym (unshifted events)) ∙ m.is;
       nodes = m.follows.nodes;
       packets = m.follows.packets;
       count = let counted : m.world.event_count ≡ 0 + w.event_count = m.follows.counted in omega arith;
@@ -202,8 +204,8 @@ module _ {V : Type 0} (size : V → ℕ) (ws : List ℕ) (limit : ℕ) (early : 
   abbrev total : ℕ
   total = limit + length parts + late_limit
 
-  up : IsRaised size ws total early w
-  up = raised size ws limit total early w (omega arith) before
+  up : IsRaised size ws (new_parts ws) total early w
+  up = raised size ws (new_parts ws) limit total early w (omega arith) before
 
   same_count : length parts ≡ length w.nodes
   same_count = length-map w.nodes (kept_of {V = V})
@@ -239,6 +241,10 @@ module _ {V : Type 0} (size : V → ℕ) (ws : List ℕ) (limit : ℕ) (early : 
     total_is = restarted_all.limit_is ∙ up.total_is;
   }
 
+  -- the packets posted before, those of the restarts among them
+  pub lost : List (Packet V)
+  lost = restarted_all.world.packets
+
   module _ (late : List (Event V)) (x : World V) (after_crash : events_result size late (Ok (resumed ws late_limit parts)) ≡ Ok x) where
     abbrev later : List (Event V)
     later = map (shifted (length restarted_all.world.packets)) late
@@ -247,9 +253,9 @@ module _ {V : Type 0} (size : V → ℕ) (ws : List ℕ) (limit : ℕ) (early : 
     meets = if_taken (Meets size restarted_all.world.event_count late_limit total restarted_all.world.packets room_left (events_result size later (Ok restarted_all.world))) (events_result size late (Ok (resumed ws late_limit parts))) x after_crash
         (meets_all size restarted_all.world.event_count late_limit total restarted_all.world.packets room_left late (resumed ws late_limit parts) restarted_all.world begin)
 
-    pub one_run : IsOneRun size ws total early parts late x
+    pub one_run : IsOneRun size ws total early parts lost late x
+    unfolding lost
     one_run = record {
-      lost = restarted_all.world.packets;
       world = meets.world;
       is_after =
           events_result-append size early (restarts_from 0 parts ++ later) (Ok (start ws total))
@@ -262,7 +268,7 @@ module _ {V : Type 0} (size : V → ℕ) (ws : List ℕ) (limit : ℕ) (early : 
     }
 
 pub crashes_only_restart : {V : Type 0} → CrashesOnlyRestart V
-crashes_only_restart size ws limit early w late_limit late x before after_crash = one_run size ws limit early w late_limit before late x after_crash
+crashes_only_restart size ws limit early w late_limit before = (lost size ws limit early w late_limit before, λ late x after_crash. one_run size ws limit early w late_limit before late x after_crash)
 
 -- logs of the same nodes agree
 same_logs : {V : Type 0} (v w x y : World V) → v.nodes ≡ x.nodes → w.nodes ≡ y.nodes → LogsAgree v w → LogsAgree x y
@@ -274,7 +280,7 @@ pub logs_agree_across_crash : {V : Type 0} → LogsAgreeAcrossCrash V
 logs_agree_across_crash {V} size ws limit early more v w late_limit late x first second after_crash =
     let one = one_run size ws limit (early ++ more) w late_limit second late x after_crash in
     let total : ℕ = limit + length (kept_parts w) + late_limit in
-    let tail : List (Event V) = restarts_from 0 (kept_parts w) ++ map (shifted (length one.lost)) late in
-    let up : IsRaised size ws total early v = raised size ws limit total early v (omega arith) first in
+    let tail : List (Event V) = restarts_from 0 (kept_parts w) ++ map (shifted (length (lost size ws limit (early ++ more) w late_limit second))) late in
+    let up : IsRaised size ws (new_parts ws) total early v = raised size ws (new_parts ws) limit total early v (omega arith) first in
     let whole : IsAfter size ws total (early ++ (more ++ tail)) one.world = ap (λ (es : List (Event V)). after size ws total es) (sym (append_assoc early more tail)) ∙ one.is_after in
     same_logs up.world one.world v x up.nodes one.nodes (logs_of_nodes_agree size ws total early (more ++ tail) up.world one.world up.is_after whole)

@@ -1,6 +1,6 @@
 -- The invariant holds at the start, and each event that is taken preserves it, so it holds of the
 -- world after any events.
-use Rattle.net.proofs.Words.{◌≡◌, ℕ, zero, suc, ◌+◌, ◌<◌, Bool, true, false, ◌==◌, List, [], ◌∷◌, Option, Some, None, Result, Ok, Err, inl, inr, refl, ap, sym, ◌∙◌, subst, arith, if◌then◌else◌, slice_get, set, AllByRecursion, In, Packet, Body, Prepare, Promise, Accept, Accepted, Nack, Ask, Told, Refusal, Node, StepResult, offer_result, begin_result, on_body, on_packet, restarted, Event, Offer, Begin, Deliver, Restart, StepFault, EventsSpent, Vote, World, start, nodes_from, after_step, after_step_or_fault, votes_after, at_node, delivered, event_result_without_limit, event_result, events_result, after, offers_of, IsAfter, all_append}
+use Rattle.net.proofs.Words.{◌≡◌, ℕ, zero, suc, ◌+◌, ◌<◌, Bool, true, false, ◌==◌, List, [], ◌∷◌, Option, Some, None, Result, Ok, Err, inl, inr, refl, ap, sym, ◌∙◌, subst, arith, if◌then◌else◌, slice_get, set, AllByRecursion, In, Packet, Body, Prepare, Promise, Accept, Accepted, Nack, Ask, Told, Refusal, Node, StepResult, offer_result, begin_result, on_body, on_packet, restarted, Event, Offer, Begin, Deliver, Restart, StepFault, EventsSpent, Vote, World, start, nodes_with, new_parts, after_step, after_step_or_fault, votes_after, at_node, delivered, event_result_without_limit, event_result, events_result, after, offers_of, IsAfter, all_append}
 use Rattle.net.proofs.GrowingLists.{all_more, all_in, in_slice_get}
 use Rattle.net.proofs.Ledger.{Ledger, IsSound}
 use Rattle.net.proofs.LedgerGrows.{Grows}
@@ -145,7 +145,7 @@ module _ {V : Type 0} (ws : List ℕ) (offers : List V) where
   empty = record { begun = []; promises = []; proposals = []; votes = [] }
 
   -- the invariant holds of new nodes with an empty ledger
-  all_new : (k : ℕ) (xs : List ℕ) → NodesHold ws offers empty k (nodes_from ws k xs)
+  all_new : (k : ℕ) (xs : List ℕ) → NodesHold ws offers empty k (nodes_with ws k (new_parts xs))
   all_new k [] = tt
   all_new k (x ∷ xs) = (
     record {

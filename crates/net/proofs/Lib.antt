@@ -13,6 +13,7 @@ mod ProposerSteps
 mod PromiseSteps
 pub mod EveryEvent
 pub mod TwoMoments
+pub mod OwnNumbers
 mod OneValue
 mod LaterBallots
 mod ChosenAgree
@@ -26,6 +27,8 @@ pub mod HistoryLemmas
 pub mod NodeStatesLemmas
 mod CrashLemmas
 mod UnderWayLemmas
+pub mod ResumedLemmas
+pub mod BeginsAgainLemmas
 pub mod EventsStaged
 pub mod StepsStaged
 pub mod StagedTaken

@@ -57,26 +57,26 @@ module _ {V : Type 0} (size : V → ℕ) (view now : NetView V) (seen : view ≡
     packets_are = added ∙ ap (λ (w : StagedWork V). view.packets ++ posts_of w) is_work
 
     -- the new cores and packets are of the world after the history with the staged event
-    pub commit_world : AreOfWorld size (record { weights = view.history.weights; event_limit = view.history.event_limit; events = events }) (set view.cores k new) packets
+    pub commit_world : AreOfWorld size (record { weights = view.history.weights; event_limit = view.history.event_limit; begins = view.history.begins; events = events }) (set view.cores k new) packets
     commit_world =
         let made = makes size view.history view.cores view.packets h (subst (λ (n : NetView V). length n.history.events < n.history.event_limit) (sym seen) low) staged.event staged.at new step happens_is packets new_node
         (packets_are ∙ ap (λ (ps : List (Packet V)). view.packets ++ ps) (posts_same staged_view.core staged.work staged_view.ready))
         (subst (λ (ps : List (Packet V)). AllByRecursion (IsPost (length view.history.weights)) ps) (sym packets_are) (all_append (IsPost (length view.history.weights)) view.packets (posts_of staged.work) h.posts staged_view.posts)) in
-        subst (λ (i : ℕ). AreOfWorld size (record { weights = view.history.weights; event_limit = view.history.event_limit; events = events }) (set view.cores i new) packets) (sym is_at)
-        (subst (λ (es : List (Event V)). AreOfWorld size (record { weights = view.history.weights; event_limit = view.history.event_limit; events = es }) (set view.cores staged.at new) packets) (sym pushed) made)
+        subst (λ (i : ℕ). AreOfWorld size (record { weights = view.history.weights; event_limit = view.history.event_limit; begins = view.history.begins; events = events }) (set view.cores i new) packets) (sym is_at)
+        (subst (λ (es : List (Event V)). AreOfWorld size (record { weights = view.history.weights; event_limit = view.history.event_limit; begins = view.history.begins; events = es }) (set view.cores staged.at new) packets) (sym pushed) made)
 
     -- the staged event is taken, from the fields before to those after
     pub commit_taken : (packet_capacity event_capacity : ℕ) → view.packet_capacity ≤ packet_capacity → view.event_capacity ≤ event_capacity
-        → IsTaken now (record { history = record { weights = view.history.weights; event_limit = view.history.event_limit; events = events }; cores = set view.cores k new; packets = packets; packet_capacity = packet_capacity; event_capacity = event_capacity }) staged
+        → IsTaken now (record { history = record { weights = view.history.weights; event_limit = view.history.event_limit; begins = view.history.begins; events = events }; cores = set view.cores k new; packets = packets; packet_capacity = packet_capacity; event_capacity = event_capacity }) staged
     commit_taken packet_capacity event_capacity p e =
-        let next : NetView V = record { history = record { weights = view.history.weights; event_limit = view.history.event_limit; events = events }; cores = set view.cores k new; packets = packets; packet_capacity = packet_capacity; event_capacity = event_capacity } in
+        let next : NetView V = record { history = record { weights = view.history.weights; event_limit = view.history.event_limit; begins = view.history.begins; events = events }; cores = set view.cores k new; packets = packets; packet_capacity = packet_capacity; event_capacity = event_capacity } in
         subst (λ (n : NetView V). IsTaken n next staged) seen record {
           old_core = staged_view.core;
           at = staged_view.at;
           core = new;
           node = new_node;
           cores = ap (λ (i : ℕ). set view.cores i new) is_at;
-          history = ap (λ (es : List (Event V)). let t : History V = record { weights = view.history.weights; event_limit = view.history.event_limit; events = es } in t) pushed;
+          history = ap (λ (es : List (Event V)). let t : History V = record { weights = view.history.weights; event_limit = view.history.event_limit; begins = view.history.begins; events = es } in t) pushed;
           packets = packets_are;
           packet_capacity = p;
           event_capacity = e;

@@ -134,11 +134,11 @@ module _ {V : Type 0} (size : V → ℕ) (view now : NetView V) (seen : view ≡
 -- if packets and events get more room, only rooms change
 pub still_room : {V : Type 0} (view now : NetView V) (packets : List (Packet V)) (events : List (Event V)) (packet_capacity event_capacity : ℕ) → view ≡ now → packets ≡ view.packets → events ≡ view.history.events
     → view.packet_capacity ≤ packet_capacity → view.event_capacity ≤ event_capacity
-    → ChangesOnlyCapacity now (record { history = record { weights = view.history.weights; event_limit = view.history.event_limit; events = events }; cores = view.cores; packets = packets; packet_capacity = packet_capacity; event_capacity = event_capacity })
+    → ChangesOnlyCapacity now (record { history = record { weights = view.history.weights; event_limit = view.history.event_limit; begins = view.history.begins; events = events }; cores = view.cores; packets = packets; packet_capacity = packet_capacity; event_capacity = event_capacity })
 still_room {V} view now packets events packet_capacity event_capacity seen same_packets same_events p e =
-    let new : NetView V = record { history = record { weights = view.history.weights; event_limit = view.history.event_limit; events = events }; cores = view.cores; packets = packets; packet_capacity = packet_capacity; event_capacity = event_capacity } in
+    let new : NetView V = record { history = record { weights = view.history.weights; event_limit = view.history.event_limit; begins = view.history.begins; events = events }; cores = view.cores; packets = packets; packet_capacity = packet_capacity; event_capacity = event_capacity } in
     subst (λ (n : NetView V). ChangesOnlyCapacity n new) seen record {
-      history = ap (λ (es : List (Event V)). let t : History V = record { weights = view.history.weights; event_limit = view.history.event_limit; events = es } in t) same_events;
+      history = ap (λ (es : List (Event V)). let t : History V = record { weights = view.history.weights; event_limit = view.history.event_limit; begins = view.history.begins; events = es } in t) same_events;
       cores = still_same view.cores;
       packets = same_packets;
       packet_capacity = p;

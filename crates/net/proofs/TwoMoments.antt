@@ -59,11 +59,15 @@ events_result-append size (e ∷ es) ds (Ok w) = events_result-append size es ds
 pub later_events : {V : Type 0} (size : V → ℕ) (ws : List ℕ) (limit : ℕ) (early late : List (Event V)) (w : World V) (r : Result (World V) StepFault) → IsAfter size ws limit early w → after size ws limit (early ++ late) ≡ r → events_result size late (Ok w) ≡ r
 later_events size ws limit early late w r first then = ap (λ r. events_result size late r) (sym first) ∙ sym (events_result-append size early late (Ok (start ws limit))) ∙ then
 
+-- weights, limit, the count of nodes and votes are preserved by any events
+pub lasts_from : {V : Type 0} (size : V → ℕ) (first w : World V) (es : List (Event V)) → events_result size es (Ok first) ≡ Ok w → Lasts first w
+lasts_from size first w es is_after = if_taken (Lasts first) (events_result size es (Ok first)) w is_after
+    (all_keep size (Lasts first) (λ e. Unit {0}) (λ y e u h. lasts_happens first y h size e) es (each_event es) (Ok first) (lasts_itself first))
+
 module _ {V : Type 0} (size : V → ℕ) (ws : List ℕ) (limit : ℕ) (early late : List (Event V)) (w x : World V) (first : IsAfter size ws limit early w) (then : IsAfter size ws limit (early ++ late) x) where
   -- weights, limit, the count of nodes and votes are preserved from the earlier moment to the later
   pub world_lasts : Lasts w x
-  world_lasts = if_taken (Lasts w) (events_result size late (Ok w)) x (later_events size ws limit early late w (Ok x) first then)
-      (all_keep size (Lasts w) (λ e. Unit {0}) (λ y e u h. lasts_happens w y h size e) late (each_event late) (Ok w) (lasts_itself w))
+  world_lasts = lasts_from size w x late (later_events size ws limit early late w (Ok x) first then)
 
   -- if a value is chosen at the earlier moment, it is chosen at the later
   pub stays_chosen : (s : ℕ) (v : Option V) → IsChosen w.weights w.votes_cast s v → IsChosen x.weights x.votes_cast s v

@@ -1,11 +1,11 @@
 -- Events of different nodes do not stand in one another's way, so those that a crash caught after
 -- their changes were stored can be taken in turn.
-use Rattle.net.proofs.Words.{◌≡◌, ◌≢◌, ℕ, ◌+◌, ◌≤◌, Bool, true, false, ◌==◌, List, [], ◌∷◌, Option, Some, None, Result, Ok, Err, if◌then◌else◌, refl, ap, sym, ◌∙◌, subst, arith, length, slice_get, option_map, nat_tests, AllByRecursion, KeptPart, Node, Packet, Refusal, StepResult, kept_of, changed_by, offer_result, begin_result, on_packet, restarted, Event, Offer, Begin, Deliver, Restart, StepFault, World, start, after_step_or_fault, at_node, delivered, event_result_without_limit, event_result, events_result, change_at, change_delivered, change_of, kept_part, node_of}
+use Rattle.net.proofs.Words.{◌≡◌, ◌≢◌, ℕ, ◌+◌, ◌≤◌, Bool, true, false, ◌==◌, List, [], ◌∷◌, Option, Some, None, Result, Ok, Err, if◌then◌else◌, refl, ap, sym, ◌∙◌, subst, arith, length, slice_get, option_map, nat_tests, AllByRecursion, KeptPart, Node, Packet, Refusal, StepResult, kept_of, changed_by, offer_result, begin_result, on_packet, restarted, Event, Offer, Begin, Deliver, Restart, StepFault, World, first_world, resumed, after_step_or_fault, at_node, delivered, event_result_without_limit, event_result, events_result, change_at, change_delivered, change_of, kept_part, node_of}
 use Rattle.std.specs.Prelude.{IsOk}
 use Rattle.net.specs.Crash.{AreOfOtherNodes, AreUnderWay, is_node, found_part, CrashesLeaveEvents}
 use Rattle.net.proofs.GrowingLists.{at_front, at_set_other}
 use Rattle.net.proofs.EveryEvent.{IfTaken, if_taken}
-use Rattle.net.proofs.TwoMoments.{events_result-append, Lasts, lasts_happens, lasts_itself, world_lasts}
+use Rattle.net.proofs.TwoMoments.{events_result-append, Lasts, lasts_from, lasts_happens, lasts_itself}
 use Rattle.net.proofs.KeptPartLemmas.{Happens, happens_moves}
 use Rattle.net.proofs.HistoryLemmas.{counts_happens_at, event_result-not_spent}
 use Rattle.net.proofs.CrashLemmas.{IsRaised, raised}
@@ -182,18 +182,18 @@ each_event w [] = tt
 each_event w (e ∷ es) = ((λ j is. tt), each_event w es)
 
 pub crashes_leave_events : {V : Type 0} → CrashesLeaveEvents V
-crashes_leave_events {V} size ws limit events es w is_after under =
-    let total : ℕ = limit + length es in
-    let up : IsRaised size ws total events w = raised size ws limit total events w (omega arith) is_after in
+crashes_leave_events {V} size history es w is_after under =
+    let total : ℕ = history.event_limit + length es in
+    let up : IsRaised size history.weights history.begins total history.events w = raised size history.weights history.begins history.event_limit total history.events w (omega arith) is_after in
     let leaves : Leaves (λ j. Unit {0}) w up.world = record {
       nodes = λ j t. ap (λ (ns : List (Node V)). slice_get ns j) up.nodes;
       packets = λ n p is. ap (λ (ps : List (Packet V)). slice_get ps n) up.packets ∙ is;
     } in
     let stay : StayUnderWay size w up.world es = stay_under_way size (λ j. Unit {0}) w up.world leaves es under (each_event w es) in
-    let w_limit : w.event_limit ≡ limit = (world_lasts size ws limit [] events (start ws limit) w refl is_after).limit in
+    let w_limit : w.event_limit ≡ history.event_limit = (lasts_from size (first_world history) w history.events is_after).limit in
     let all : TakesAll size up.world es = takes_all size es up.world (omega (arith, up.count, up.few, up.total_is, w_limit)) stay.under_way in
     record {
       world = all.world;
-      is_after = events_result-append size events es (Ok (start ws total)) ∙ ap (λ (r : Result (World V) StepFault). events_result size es r) up.is_after ∙ all.is;
+      is_after = events_result-append size history.events es (Ok (resumed history.weights total history.begins)) ∙ ap (λ (r : Result (World V) StepFault). events_result size es r) up.is_after ∙ all.is;
       parts = λ k. all.parts k ∙ stay.found k (ap (λ (ns : List (Node V)). option_map kept_of (slice_get ns k)) up.nodes);
     }

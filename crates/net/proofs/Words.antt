@@ -5,8 +5,8 @@ pub use Rattle.net.specs.Agreement.{Agreement, IsMetOrMemory, IsMoment, RunStops
 pub use Rattle.net.specs.KeptPart.{AreOfOthers, node_of_event, change_of_result, change_at, change_delivered, change_of, kept_part, node_of}
 pub use Rattle.net.specs.Laws.{BallotsHaveOneValue, ChosenValuesAgree, KeptPartSurvives, ChosenValuesPersist, LogEntriesAreChosen, LogEntriesWereOffered, LogsOfNodesAgree, LogsOnlyGrow, RestartEmptiesLog}
 pub use Rattle.net.specs.Staged.{EachChangesOnlyCapacity, HasResult, IsStagingResultInNet, IsOfEvent, IsReadyAt, IsStaged, IsStagedAt, ChangesOnlyCapacity, IsTaken, NetView, IsStagingResultAt, IsStagingResultOfEvent, StagedEvent, StagedWork, posts_of, restarts, step_of, steps, work_of}
-pub use Rattle.net.specs.History.{AreOfWorld, History, nodes_of, with_event, world_of}
-pub use Rattle.net.specs.World.{World, after, events_result, after_step_or_fault, at_node, delivered, event_result, event_result_without_limit, log, log_after, log_at, nodes_from, offers_of, packets_after, start, after_step, votes_after}
+pub use Rattle.net.specs.History.{AreOfWorld, BeginsNew, History, first_world, new_history, nodes_of, parts_of, with_event, world_of}
+pub use Rattle.net.specs.World.{World, after, events_result, after_step_or_fault, at_node, delivered, event_result, event_result_without_limit, log, log_after, log_at, new_parts, nodes_with, offers_of, resumed, packets_after, start, after_step, votes_after}
 pub use Rattle.net.specs.declared.event.Event.{Event}
 pub use Rattle.net.specs.declared.event.Event.TheVariants.{Begin, Deliver, Offer, Restart}
 pub use Rattle.net.specs.declared.fault.StepFault.{StepFault}
@@ -19,8 +19,8 @@ pub use Rattle.std.proofs.Common.{Bool, Err, List, MatchOption, None, Ok, Option
 pub use Rattle.std.proofs.Math.Seq.{take-append_seam}
 pub use Rattle.std.proofs.lemmas.Bool.{and_parts, not-true}
 pub use Rattle.std.proofs.lemmas.Bool.Decides.{nat_tests}
-pub use Rattle.std.proofs.lemmas.List.{length-map, length-set}
-pub use Rattle.std.proofs.lemmas.Option.{slice_get_read, slice_get_within}
+pub use Rattle.std.proofs.lemmas.List.{length-map, length-set, map-append, take_more}
+pub use Rattle.std.proofs.lemmas.Option.{slice_get-map, slice_get_read, slice_get_within}
 pub use Rattle.std.specs.Borrow.{Bor}
 pub use Rattle.std.specs.Iterator.{Yields}
 pub use Rattle.std.specs.List.{AllByRecursion}
@@ -43,14 +43,14 @@ pub use Rattle.synod.specs.Ballots.{is_same, is_below}
 pub use Rattle.synod.specs.Core.{Core}
 pub use Rattle.synod.specs.Learner.{learns_chosen, counted, has_voter, learns, on_accepted, on_accepted_at, on_ask, on_ask_at, on_told, on_told_at}
 pub use Rattle.synod.specs.Log.{log_length, log_of}
-pub use Rattle.synod.specs.Node.{Node, StepResult, is_heard, kept_of, new_node, no_pages, page_of, pages_from, unchanged, with_page}
+pub use Rattle.synod.specs.Node.{Node, StepResult, is_heard, kept_of, no_pages, page_of, pages_from, restarted_node, unchanged, with_page}
 pub use Rattle.synod.specs.Packets.{IsPost, accept_posts, packet, to_all, to_all_from, to_others, to_others_from}
 pub use Rattle.synod.specs.PromisePages.{are_received, joined_pages, pages_of}
 pub use Rattle.synod.specs.Proposer.{all_reports, begins, begin_result, proposed_values, on_promise_page, on_complete_promise, highest_at, idles, is_at, adds_page, completes_promise, leads, next_ballot, next_round, offer_as, offer_waits, offer_result, on_nack, on_promise, on_promise_as, reported_value, proposes_value, top_or_first, waits}
 pub use Rattle.synod.specs.Ready.{ReadyView}
-pub use Rattle.synod.specs.Record.{KeptPart, changed_by}
+pub use Rattle.synod.specs.Record.{KeptPart, RecordView, changed_by}
 pub use Rattle.synod.specs.Capacity.{KeepsCapacity}
-pub use Rattle.synod.specs.Step.{on_body, on_packet, restarted}
+pub use Rattle.synod.specs.Step.{on_body, on_packet, reloaded, restarted}
 pub use Rattle.synod.specs.Weights.{IsWeights, is_quorum}
 pub use Rattle.synod.specs.declared.ballot.Ballot.{Ballot}
 pub use Rattle.synod.specs.declared.change.Change.{Change}

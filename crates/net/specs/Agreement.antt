@@ -4,15 +4,15 @@
 -- events that a net took.
 use Rattle.std.specs.Prelude.{◌≡◌, ◌⊎◌, ◌<◌, ℕ, List, length, take, suc, Result, Ok, Err, IsOk}
 use Rattle.net.specs.Words.{Event, StepFault, Memory}
-use Rattle.net.specs.World.{World, after}
-use Rattle.net.specs.Agree.{IsAfter, OneValue, ChosenValuePersists, ChosenAgree, LogsChosen, IsPrefixOf, LogsAgree, LogsOffered}
-use Rattle.net.specs.History.{History, world_of}
+use Rattle.net.specs.World.{World, after, events_result}
+use Rattle.net.specs.Agree.{OneValue, ChosenValuePersists, ChosenAgree, LogsChosen, IsPrefixOf, LogsAgree, LogsOffered}
+use Rattle.net.specs.History.{History, first_world, world_of}
 
 -- w is the world at a moment of the history: after a prefix of its events
 pub record IsMoment {V : Type 0} (size : V → ℕ) (history : History V) (w : World V) : Type 0 where
   pub early : List (Event V)
   pub begins : IsPrefixOf early history.events
-  pub is_after : IsAfter size history.weights history.event_limit early w
+  pub is_after : events_result size early (Ok (first_world history)) ≡ Ok w
 
 pub record Agreement {V : Type 0} (size : V → ℕ) (history : History V) : Type 0 where
   -- no event of the history meets a fault

@@ -4,11 +4,11 @@
 -- The code stores the change of an event before it commits the event, and a crash may come between
 -- the two, at several nodes. The new process numbers its packets and counts its events from 0.
 use Rattle.std.specs.Prelude.{◌≡◌, ◌≢◌, ℕ, suc, ◌+◌, Bool, false, ◌==◌, List, [], ◌∷◌, ◌++◌, length, map, Option, Some, None, Ok, IsOk, if◌then◌else◌}
-use Rattle.synod.specs.Node.{restarted_node}
-use Rattle.net.specs.Words.{AllByRecursion, option_map, KeptPart, Node, Packet, changed_by, kept_of, Event, Offer, Begin, Deliver, Restart}
-use Rattle.net.specs.World.{World, event_result_without_limit, events_result}
+use Rattle.net.specs.Words.{AllByRecursion, option_map, KeptPart, Packet, changed_by, kept_of, Event, Offer, Begin, Deliver, Restart}
+use Rattle.net.specs.World.{World, resumed, event_result_without_limit, events_result}
 use Rattle.net.specs.KeptPart.{change_of, kept_part, node_of}
 use Rattle.net.specs.Agree.{IsAfter, LogsAgree}
+use Rattle.net.specs.History.{History, world_of}
 
 -- the kept part of each node
 abbrev pub kept_parts : {V : Type 0} → World V → List (KeptPart V)
@@ -36,28 +36,23 @@ found_part size w [] k = kept_part w k
 found_part size w (e ∷ es) k =
     if is_node (node_of w e) k then option_map (λ kept. changed_by kept (change_of size w e)) (kept_part w k) else found_part size w es k
 
--- the events are taken, and the kept parts after them are those that are found
-pub record IsLeft {V : Type 0} (size : V → ℕ) (weights : List ℕ) (limit : ℕ) (events : List (Event V)) (found : ℕ → Option (KeptPart V)) : Type 0 where
+-- the history with these events after its own, under a limit that is greater by their number
+abbrev pub with_events : {V : Type 0} → History V → List (Event V) → History V
+with_events history es = record { weights = history.weights; event_limit = history.event_limit + length es; begins = history.begins; events = history.events ++ es }
+
+-- the history is taken, and the kept parts after it are those that are found
+pub record IsLeft {V : Type 0} (size : V → ℕ) (history : History V) (found : ℕ → Option (KeptPart V)) : Type 0 where
   pub world : World V
-  pub is_after : IsAfter size weights limit events world
+  pub is_after : world_of size history ≡ Ok world
   pub parts : (k : ℕ) → kept_part world k ≡ found k
 
 -- whatever a crash leaves, it is what the events before it leave, with those under way after them
 abbrev pub CrashesLeaveEvents : Type 0 → Type 0
-CrashesLeaveEvents V = (size : V → ℕ) (weights : List ℕ) (limit : ℕ) (events under_way : List (Event V)) (w : World V)
-    → IsAfter size weights limit events w → AreUnderWay size w under_way
-    → IsLeft size weights (limit + length under_way) (events ++ under_way) (found_part size w under_way)
+CrashesLeaveEvents V = (size : V → ℕ) (history : History V) (under_way : List (Event V)) (w : World V)
+    → world_of size history ≡ Ok w → AreUnderWay size w under_way
+    → IsLeft size (with_events history under_way) (found_part size w under_way)
 
 -- What goes on from there.
-
--- nodes with these kept parts, numbered from k, as a restart leaves them
-abbrev pub nodes_with : {V : Type 0} → List ℕ → ℕ → List (KeptPart V) → List (Node V)
-nodes_with weights k [] = []
-nodes_with weights k (kept ∷ parts) = restarted_node k weights kept ∷ nodes_with weights (suc k) parts
-
--- the world of a process whose nodes begin with these kept parts, before any event
-abbrev pub resumed : {V : Type 0} → List ℕ → ℕ → List (KeptPart V) → World V
-resumed weights limit parts = record { weights = weights; nodes = nodes_with weights 0 parts; packets = []; votes_cast = []; event_count = 0; event_limit = limit }
 
 -- the restarts of the nodes with these kept parts, from node k on
 abbrev pub restarts_from : {V : Type 0} → ℕ → List (KeptPart V) → List (Event V)
@@ -72,10 +67,9 @@ shifted posted (Deliver number) = Deliver (posted + number)
 shifted posted (Restart k) = Restart k
 
 -- The events before a crash, the restarts of all nodes, and the events after it are one run, at the
--- end of which the nodes are those of world x; what was posted before and not delivered is lost.
+-- end of which the nodes are those of world x; what was posted before is lost.
 pub record IsOneRun {V : Type 0} (size : V → ℕ) (weights : List ℕ) (limit : ℕ)
-    (early : List (Event V)) (parts : List (KeptPart V)) (late : List (Event V)) (x : World V) : Type 0 where
-  pub lost : List (Packet V)
+    (early : List (Event V)) (parts : List (KeptPart V)) (lost : List (Packet V)) (late : List (Event V)) (x : World V) : Type 0 where
   pub world : World V
   pub is_after : IsAfter size weights limit (early ++ (restarts_from 0 parts ++ map (shifted (length lost)) late)) world
   pub nodes : world.nodes ≡ x.nodes
@@ -84,9 +78,9 @@ pub record IsOneRun {V : Type 0} (size : V → ℕ) (weights : List ℕ) (limit 
 -- whatever events were taken before a crash, events of a process that begins with the kept parts
 -- that the crash left go on with that run
 abbrev pub CrashesOnlyRestart : Type 0 → Type 0
-CrashesOnlyRestart V = (size : V → ℕ) (weights : List ℕ) (limit : ℕ) (early : List (Event V)) (w : World V) (late_limit : ℕ) (late : List (Event V)) (x : World V)
-    → IsAfter size weights limit early w → events_result size late (Ok (resumed weights late_limit (kept_parts w))) ≡ Ok x
-    → IsOneRun size weights (limit + length (kept_parts w) + late_limit) early (kept_parts w) late x
+CrashesOnlyRestart V = (size : V → ℕ) (weights : List ℕ) (limit : ℕ) (early : List (Event V)) (w : World V) (late_limit : ℕ) → IsAfter size weights limit early w
+    → (lost : List (Packet V)) × ((late : List (Event V)) (x : World V) → events_result size late (Ok (resumed weights late_limit (kept_parts w))) ≡ Ok x
+    → IsOneRun size weights (limit + length (kept_parts w) + late_limit) early (kept_parts w) lost late x)
 
 -- of the logs of any two nodes, the one at any moment before a crash and the other after it, one is
 -- a prefix of the other

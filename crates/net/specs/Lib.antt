@@ -8,4 +8,5 @@ pub mod Laws
 pub mod Crash
 pub mod History
 pub mod Agreement
+pub mod Resumed
 pub mod Staged

@@ -8,11 +8,11 @@ pub use Rattle.std.specs.Option.{option_map}
 pub use Rattle.synod.specs.Ballots.{is_below}
 pub use Rattle.synod.specs.Core.{Core}
 pub use Rattle.synod.specs.Log.{log_of}
-pub use Rattle.synod.specs.Node.{Node, StepResult, kept_of, new_node}
+pub use Rattle.synod.specs.Node.{Node, StepResult, kept_of, restarted_node}
 pub use Rattle.synod.specs.Packets.{IsPost, to_others}
 pub use Rattle.synod.specs.Proposer.{begin_result, offer_result}
 pub use Rattle.synod.specs.Ready.{ReadyView}
-pub use Rattle.synod.specs.Record.{KeptPart, RecordView, changed_by}
+pub use Rattle.synod.specs.Record.{KeptPart, RecordView, changed_by, new_kept}
 pub use Rattle.synod.specs.Capacity.{KeepsCapacity}
 pub use Rattle.synod.specs.Step.{on_packet, reloaded, restarted}
 pub use Rattle.synod.specs.Weights.{IsWeights, is_quorum}

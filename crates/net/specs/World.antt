@@ -4,9 +4,9 @@
 -- delayed, agents restart).
 -- The code stores the present nodes, the packets and the events that led there; the world here also
 -- has every vote.
-use Rattle.std.specs.Prelude.{◌≡◌, ℕ, suc, ◌+◌, ◌==◌, List, [], ◌∷◌, ◌++◌, Option, Some, None, MatchOption, Result, Ok, Err, slice_get, slice_set, if◌then◌else◌}
+use Rattle.std.specs.Prelude.{◌≡◌, ℕ, suc, ◌+◌, ◌==◌, List, [], ◌∷◌, ◌++◌, map, Option, Some, None, MatchOption, Result, Ok, Err, slice_get, slice_set, if◌then◌else◌}
 use Rattle.std.specs.Borrow.{Bor}
-use Rattle.net.specs.Words.{Packet, Change, Round, Promise, Entry, Refusal, Node, StepResult, new_node, log_of, offer_result, begin_result, on_packet, restarted, Event, Offer, Begin, Deliver, Restart, StepFault, Busy, LogFull, RoundsSpent, TooLong, Memory, NoNode, NoPacket, EventsSpent}
+use Rattle.net.specs.Words.{Packet, Change, Round, Promise, Entry, Refusal, KeptPart, new_kept, Node, StepResult, restarted_node, log_of, offer_result, begin_result, on_packet, restarted, Event, Offer, Begin, Deliver, Restart, StepFault, Busy, LogFull, RoundsSpent, TooLong, Memory, NoNode, NoPacket, EventsSpent}
 use Rattle.synod.specs.declared.refusal.Refusal.TheVariants.{Busy as NodeBusy, LogFull as NodeLogFull, RoundsSpent as NodeRoundsSpent, TooLong as NodeTooLong, Memory as NodeMemory}
 use Rattle.net.specs.Chosen.{Vote, vote}
 
@@ -18,15 +18,23 @@ pub record World (V : Type 0) : Type 0 where
   pub event_count : ℕ  -- the number of events taken
   pub event_limit : ℕ  -- the number of events that the world takes
 
--- a new node for each weight of the second list, numbered from k; the first list has the weights of
--- all nodes of the log
-abbrev pub nodes_from : {V : Type 0} → List ℕ → ℕ → List ℕ → List (Node V)
-nodes_from weights k [] = []
-nodes_from weights k (w ∷ ws) = new_node k weights ∷ nodes_from weights (suc k) ws
+-- nodes with these kept parts, numbered from k, as a restart leaves them
+abbrev pub nodes_with : {V : Type 0} → List ℕ → ℕ → List (KeptPart V) → List (Node V)
+nodes_with weights k [] = []
+nodes_with weights k (kept ∷ parts) = restarted_node k weights kept ∷ nodes_with weights (suc k) parts
 
--- the world before any event, with a limit on the number of events
+-- the world of a process whose nodes begin with these kept parts, before any event, with a limit on
+-- the number of events
+abbrev pub resumed : {V : Type 0} → List ℕ → ℕ → List (KeptPart V) → World V
+resumed weights limit parts = record { weights = weights; nodes = nodes_with weights 0 parts; packets = []; votes_cast = []; event_count = 0; event_limit = limit }
+
+-- the kept parts of new nodes, one for each weight
+abbrev pub new_parts : {V : Type 0} → List ℕ → List (KeptPart V)
+new_parts weights = map (λ w. new_kept) weights
+
+-- the world of new nodes before any event
 abbrev pub start : {V : Type 0} → List ℕ → ℕ → World V
-start weights limit = record { weights = weights; nodes = nodes_from weights 0 weights; packets = []; votes_cast = []; event_count = 0; event_limit = limit }
+start weights limit = resumed weights limit (new_parts weights)
 
 -- the refusal of a node, as the fault of the event
 abbrev pub fault_of : Refusal → StepFault
@@ -87,8 +95,8 @@ events_result size [] r = r
 events_result size (e ∷ es) (Err fault) = Err fault
 events_result size (e ∷ es) (Ok w) = events_result size es (event_result size w e)
 
--- the world of these weights and this limit after these events, or the fault of the first that is
--- refused; size gives the length of a value
+-- the world of new nodes with these weights and this limit after these events, or the fault of the
+-- first that is refused; size gives the length of a value
 abbrev pub after : {V : Type 0} → (V → ℕ) → List ℕ → ℕ → List (Event V) → Result (World V) StepFault
 after size weights limit events = events_result size events (Ok (start weights limit))
 

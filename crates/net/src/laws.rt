@@ -3,6 +3,7 @@ ghost use Rattle.net.specs.Crash.{CrashesLeaveEvents, CrashesOnlyRestart, LogsAg
 ghost use Rattle.net.specs.Laws.{BallotsHaveOneValue, ChosenValuesPersist, ChosenValuesAgree};
 ghost use Rattle.net.specs.Laws.{LogEntriesAreChosen, LogsOfNodesAgree, LogEntriesWereOffered};
 ghost use Rattle.net.specs.Laws.{KeptPartSurvives, LogsOnlyGrow, RestartEmptiesLog};
+ghost use Rattle.net.specs.Resumed.{HistoriesGoOn, NewPartsAreLeft, RunsAreLeft};
 
 /// States agreement after any events of which none meets a fault, whatever was lost, repeated or
 /// delayed and whichever nodes restarted, for any weights, any limit on events and any values.
@@ -47,4 +48,18 @@ pub fn crash<V>()
     ensures left { CrashesLeaveEvents V }
     ensures one_run { CrashesOnlyRestart V }
     ensures logs_agree { LogsAgreeAcrossCrash V }
+{}
+
+/// States that a process whose nodes begin with the kept parts that an earlier run left goes on
+/// with that run: agreement holds of both as one run, and of the logs of any two nodes, at any
+/// moments of either, one is a prefix of the other. A node at which nothing happens, since what it
+/// kept is damaged or not to be had, may begin with anything. New nodes begin with what a run
+/// without events leaves. What the process leaves is left by one run of new nodes too, so the same
+/// holds after any number of crashes.
+///
+/// Source: Lamport, Paxos Made Simple, section 2.5.
+pub fn resume<V>()
+    ensures goes_on { HistoriesGoOn V }
+    ensures new { NewPartsAreLeft V }
+    ensures left { RunsAreLeft V }
 {}

@@ -12,6 +12,7 @@
 
 mod event;
 mod fault;
+mod ghost_value;
 mod laws;
 mod net;
 mod node_state;
@@ -19,6 +20,6 @@ mod staged;
 
 pub use event::Event;
 pub use fault::StepFault;
-pub use laws::{agreement, crash, kept_part, logs_grow};
+pub use laws::{agreement, crash, kept_part, logs_grow, resume};
 pub use net::Net;
 pub use staged::StagedEvent;

@@ -1,21 +1,24 @@
 //! A net: the nodes of a log, all packets that they posted, and the events that led there, over any
 //! values.
 ghost use Rattle.synod.specs.Weights.{IsWeights};
-ghost use Rattle.net.specs.History.{nodes_of};
-ghost use Rattle.net.specs.World.{nodes_from};
+ghost use Rattle.synod.specs.Node.{restarted_node};
+ghost use Rattle.net.specs.History.{kept_parts_of, nodes_of, parts_of};
+ghost use Rattle.net.specs.World.{new_parts, nodes_with};
 ghost use Rattle.std.specs.Prelude.{◌≡◌, ◌↔◌, ◌≤◌, ◌<◌, ◌++◌, [], Ok, Err, Some, None, length};
 ghost use Rattle.std.specs.Prelude.{vec_len, vec_capacity, IfOk, IsOk, OnOk, OnErr, IsOkUnless};
 ghost use Rattle.std.specs.Prelude.{MatchResult};
 
 use crate::event::Event;
 use crate::fault::StepFault;
+use crate::ghost_value::GhostValue;
 use crate::staged::{StagedEvent, commit_at, stage_event};
 use std::alloc::{AllocError, Global};
 use std::marker::Model;
-use synod::{NodeCore, Packet, Value, Weights};
+use synod::{NodeCore, Packet, Record, Value, Weights};
 
-/// The nodes of a world and their packets. Contracts see the weights, the limit on events, the
-/// events taken, the nodes and packets of the world after them, and the reserved capacity.
+/// The nodes of a world and their packets. Contracts see the weights, the limit on events, the kept
+/// parts with which the nodes began, the events taken, the nodes and packets of the world after
+/// them, and the reserved capacity.
 ///
 /// Source: Lamport, Paxos Made Simple, sections 2 and 3; `specs/World.antt` defines the world after
 /// a list of events.
@@ -24,6 +27,8 @@ pub struct Net<V: Value> {
     weights: Weights,
     /// The number of events that the net takes.
     event_limit: u64,
+    /// The record with which each node began, which contracts alone see.
+    begins: Vec<GhostValue<Record<V>>>,
     pub(crate) nodes: Vec<NodeCore<V>>,
     packets: Vec<Packet<V>>,
     events: Vec<Event<V>>,
@@ -31,31 +36,45 @@ pub struct Net<V: Value> {
 
 impl<V: Value> Model for Net<V> {
     ghost use Rattle.std.specs.Prelude.{vec_capacity};
-    ghost use Rattle.net.specs.History.{AreOfWorld};
+    ghost use Rattle.net.specs.History.{AreOfWorld, parts_of};
     ghost use Rattle.net.specs.Staged.{NetView};
 
     ghost Value = { NetView V };
 
     ghost view = { λ w. record {
-      history = record { weights = w.weights; event_limit = w.event_limit; events = w.events.items };
+      history = record {
+        weights = w.weights;
+        event_limit = w.event_limit;
+        begins = parts_of w.begins.items;
+        events = w.events.items;
+      };
       cores = w.nodes.items;
       packets = w.packets.items;
       packet_capacity = vec_capacity w.packets;
       event_capacity = vec_capacity w.events;
     } };
 
-    ghost invariant = { λ w. AreOfWorld V.bytes (record { weights = w.weights; event_limit = w.event_limit; events = w.events.items }) w.nodes.items w.packets.items };
+    ghost invariant = { λ w. AreOfWorld V.bytes
+        (record {
+          weights = w.weights;
+          event_limit = w.event_limit;
+          begins = parts_of w.begins.items;
+          events = w.events.items;
+        })
+        w.nodes.items w.packets.items };
 }
 
 impl<V: Value> Net<V> {
     ghost use Rattle.std.specs.Prelude.{slice_get, IfErr, IsSome};
     ghost use Rattle.slots.specs.declared.slots.TheConstants.{SLOTS};
     ghost use Rattle.net.specs.World.{log_after, packets_after, IsLogEntry};
-    ghost use Rattle.net.specs.History.{AreOfWorld, world_of, with_event};
+    ghost use Rattle.net.specs.History.{AreOfWorld, BeginsNew, kept_parts_of, new_history};
+    ghost use Rattle.net.specs.History.{world_of, with_event};
     ghost use Rattle.net.specs.KeptPart.{node_of_event};
     ghost use Rattle.net.specs.Staged.{IsStagingResultInNet, HasSpareCapacity, IsStaged, IsOfEvent};
     ghost use Rattle.net.specs.Staged.{ChangesOnlyCapacity, IsTaken, posts_of};
     ghost use Rattle.net.specs.Agreement.{Agreement};
+    ghost use Rattle.net.specs.Resumed.{BeginsAgain, GoesOn, IsIdle, RunBefore};
     ghost use Rattle.net.specs.declared.fault.StepFault.TheVariants.{NoNode, NoPacket, Memory};
 
     /// Creates a net with a new node for each weight, which takes at most `event_limit` events. It
@@ -63,18 +82,57 @@ impl<V: Value> Net<V> {
     ///
     /// Errors: `Memory`.
     pub fn new(alloc: Global, weights: Weights, event_limit: u64) -> Result<Self, StepFault>
-        ensures new { IfOk result
-            (λ net. net.history ≡ record { weights = weights; event_limit = event_limit; events = [] }) }
+        ensures new { IfOk result (λ net. net.history ≡ new_history weights event_limit []) }
         ensures world { IfOk result (λ net. AreOfWorld V.bytes net.history net.cores net.packets) }
         ensures only_memory { IsOkUnless result Memory }
     {
+        let records = new_records(alloc, weights)?;
+        Net::resume(alloc, weights, event_limit, records)
+    }
+
+    /// Creates a net whose nodes begin with these records, one for each weight, as a restart leaves
+    /// them. It takes at most `event_limit` events, and has taken none.
+    ///
+    /// Errors: `Memory`. Cost: a constant for each node.
+    pub fn resume(
+        alloc: Global,
+        weights: Weights,
+        event_limit: u64,
+        records: Vec<Record<V>>,
+    ) -> Result<Self, StepFault>
+        requires { length records.items ≡ length weights }
+        ensures resumed { IfOk result
+            (λ net. net.history
+            ≡ record {
+              weights = weights;
+              event_limit = event_limit;
+              begins = kept_parts_of records.items;
+              events = [];
+            }) }
+        ensures world { IfOk result (λ net. AreOfWorld V.bytes net.history net.cores net.packets) }
+        ensures only_memory { IsOkUnless result Memory }
+    {
+        let (begins, nodes) = begin_nodes(alloc, weights, records)?;
         Ok(Net {
             weights,
             event_limit,
-            nodes: new_nodes(alloc, weights)?,
+            begins,
+            nodes,
             packets: Vec::new(alloc),
             events: Vec::new(alloc),
         })
+    }
+
+    /// Lets node `k`, at which nothing happened, begin again with this record. The events taken are
+    /// then events of nodes of which this one began so. It does not allocate.
+    pub fn begin_again(&mut self, k: u8, stored: Record<V>)
+        requires node { k < length self.old.history.weights }
+        requires idle { IsIdle V.bytes self.old.history k }
+        ensures { BeginsAgain V.bytes self.old self.new k stored.kept }
+    {
+        let at = k as usize;
+        self.begins[at] = GhostValue::of(&stored);
+        self.nodes[at].commit_reload(stored);
     }
 
     /// Stages an event: allocates all that its step needs, and changes nothing but capacity.
@@ -181,15 +239,24 @@ impl<V: Value> Net<V> {
         Ok(self.commit(staged))
     }
 
-    /// Returns the events taken, oldest first. None of them meets a fault, and agreement holds
-    /// after every prefix of them.
+    /// Returns the events taken, oldest first. None of them meets a fault. Agreement holds after
+    /// every prefix of them, if the nodes began as new ones; if they began with what an earlier run
+    /// left, it holds of that run and these events as one run.
     pub fn history(&self) -> &[Event<V>]
         ensures events { result.now ≡ self.now.history.events }
         ensures few { length self.now.history.events ≤ self.now.history.event_limit }
-        ensures agreement { Agreement V.bytes self.now.history }
+        ensures agreement { BeginsNew self.now.history → Agreement V.bytes self.now.history }
+        ensures resumed { (before : RunBefore V.bytes self.now.history) → GoesOn V.bytes self.now.history before }
         ensures world { AreOfWorld V.bytes self.now.history self.now.cores self.now.packets }
     {
         &self.events
+    }
+
+    /// Returns the number of packets posted so far.
+    pub fn posted(&self) -> u64
+        ensures { result ≡ length (packets_after (world_of V.bytes self.now.history)) }
+    {
+        self.packets.len() as u64
     }
 
     /// Returns the number of events that the net takes.
@@ -248,14 +315,46 @@ impl<V: Value> Net<V> {
     }
 }
 
-/// Creates a node for each weight.
-fn new_nodes<V: Value>(alloc: Global, weights: Weights) -> Result<Vec<NodeCore<V>>, AllocError>
-    ensures nodes { IfOk result (λ nodes. nodes_of nodes.items ≡ nodes_from weights 0 weights) }
+/// Creates the record of a new node for each weight.
+fn new_records<V: Value>(alloc: Global, weights: Weights) -> Result<Vec<Record<V>>, AllocError>
+    ensures { IfOk result (λ records. kept_parts_of records.items ≡ new_parts weights) }
+{
+    let mut records = Vec::new(alloc);
+    for _node in 0..weights.count() {
+        records.push(Record::new(alloc))?;
+    }
+    Ok(records)
+}
+
+/// Creates the nodes that begin with these records, one for each weight, and keeps the records for
+/// contracts.
+fn begin_nodes<V: Value>(
+    alloc: Global,
+    weights: Weights,
+    records: Vec<Record<V>>,
+) -> Result<(Vec<GhostValue<Record<V>>>, Vec<NodeCore<V>>), AllocError>
+    requires { length records.items ≡ length weights }
+    ensures begins { IfOk result (λ parts. parts_of parts.0.items ≡ kept_parts_of records.items) }
+    ensures nodes { IfOk result
+        (λ parts. nodes_of parts.1.items ≡ nodes_with weights 0 (kept_parts_of records.items)) }
     ensures weights { OnOk result (IsWeights weights) }
 {
+    let mut begins = Vec::new(alloc);
     let mut nodes = Vec::new(alloc);
-    for k in 0..weights.count() {
-        nodes.push(NodeCore::new(alloc, k, weights))?;
+    for stored in records {
+        begins.push(GhostValue::of(&stored))?;
+        let k = nodes.len() as u8;
+        nodes.push(begin_node(alloc, k, weights, stored))?;
     }
-    Ok(nodes)
+    Ok((begins, nodes))
+}
+
+/// Creates the node `k` that begins with this record. It does not allocate.
+fn begin_node<V: Value>(alloc: Global, k: u8, weights: Weights, stored: Record<V>) -> NodeCore<V>
+    requires { k < length weights }
+    ensures { result.node ≡ restarted_node k weights stored.kept }
+{
+    let mut node = NodeCore::new(alloc, k, weights);
+    node.commit_reload(stored);
+    node
 }

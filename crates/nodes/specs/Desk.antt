@@ -6,7 +6,7 @@
 -- answer, the count of packets posted so far or a fault, and leaves the switch `new`.
 -- `carried_size` is the size of an entry in bytes.
 use Rattle.std.specs.Prelude.{◌≡◌, ◌⊎◌, ℕ, List, [], ◌∷◌, Option, Result, Ok, Err}
-use Rattle.nodes.specs.Words.{Listed, Verdict, status, listed, Carried, Ahead, Event, Deliver, Restart, StepFault, Apart, Stopped, carried_size, SwitchView, Plays, Belongs, IsAhead, Cell, IsCell, work_limit_of}
+use Rattle.nodes.specs.Words.{Listed, Verdict, status, listed, Carried, Ahead, Event, Deliver, Restart, StepFault, Apart, Stopped, carried_size, RunBefore, history_of, SwitchView, Plays, Belongs, IsAhead, Cell, IsCell, work_limit_of}
 
 -- the assertions of the library of some cell of node k
 pub record IsListed (k : ℕ) (list : List Listed) : Type 0 where
@@ -34,7 +34,8 @@ pub record IsCompared (j k : ℕ) (ahead : Ahead) : Type 0 where
   pub one_belongs : Belongs one switch
   pub other_belongs : Belongs other switch
   pub one_limit : work_limit_of one ≡ work_limit_of other
-  pub compares : IsAhead ahead one.node_library.library.statements other.node_library.library.statements
+  -- if the nodes began with what an earlier run left, as new ones do
+  pub compares : RunBefore carried_size (history_of switch) → IsAhead ahead one.node_library.library.statements other.node_library.library.statements
 
 -- The rest is about the events that calls at a desk play on the switch.
 

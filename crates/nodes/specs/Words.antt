@@ -7,11 +7,12 @@ pub use Rattle.library.specs.Listed.{listed}
 pub use Rattle.library.specs.declared.listed.Listed.{Listed}
 pub use Rattle.library.specs.declared.verdict.Verdict.{Verdict}
 pub use Rattle.net.specs.KeptPart.{node_of}
+pub use Rattle.net.specs.Resumed.{RunBefore}
 pub use Rattle.net.specs.World.{World}
 pub use Rattle.net.specs.declared.event.Event.{Event}
 pub use Rattle.net.specs.declared.event.Event.TheVariants.{Deliver, Restart}
 pub use Rattle.net.specs.declared.fault.StepFault.{StepFault}
 pub use Rattle.net.specs.declared.fault.StepFault.TheVariants.{Apart, Stopped}
-pub use Rattle.switch.specs.Switch.{Plays, SwitchView, world_of}
+pub use Rattle.switch.specs.Switch.{Plays, SwitchView, history_of, world_of}
 pub use Rattle.world.specs.Carried.{carried_size}
 pub use Rattle.world.specs.declared.carried.Carried.{Carried}

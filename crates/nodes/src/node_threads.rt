@@ -1,8 +1,6 @@
 //! The threads of the nodes, from start to stop.
 ghost use Rattle.std.specs.Prelude.{◌≡◌, ◌⊎◌, length, vec_len, IfOk, IfErr, IsOkUnless};
 ghost use Rattle.std.specs.Arc.{arc_value};
-ghost use Rattle.std.specs.List.{AllByRecursion};
-ghost use Rattle.synod.specs.Record.{new_kept};
 ghost use Rattle.net.specs.declared.fault.StepFault.TheVariants.{Memory, Stopped};
 ghost use Rattle.switch.specs.Switch.{SwitchView};
 ghost use Rattle.world.specs.declared.carried.Carried.{Carried};
@@ -15,7 +13,7 @@ use crate::shared_cell::SharedCell;
 use crate::shared_nodes::SharedNodes;
 use crate::shared_switch::SharedSwitch;
 use crate::weather::Weather;
-use cluster::{NodeCell, cells};
+use cluster::{NodeCell, resume_cells};
 use crossbeam_channel::{Receiver, Sender};
 use net::StepFault;
 use std::alloc::{AllocError, Global};
@@ -60,9 +58,9 @@ pub struct ClusterSetup {
     pub workers: PoolSize,
 }
 
-/// Starts the nodes' threads: for each weight a node with its keep, whose record is that of a new
-/// node, and its weather. A thread passes `gate` before it applies an entry and before it checks a
-/// proof.
+/// Starts the nodes' threads: for each weight a node that begins with the record of its keep, and
+/// its weather. A node whose record cannot be loaded is down until a restart loads it. A thread
+/// passes `gate` before it applies an entry and before it checks a proof.
 ///
 /// Errors: `Memory`, if an allocation fails or a thread cannot be started; the threads that were
 /// started have then ended.
@@ -81,7 +79,6 @@ pub fn start<
 ) -> Result<Cluster<G, K>, StepFault>
     requires weathers { length weathers.items ≡ length setup.now.weights }
     requires keeps { length keeps.items ≡ length setup.now.weights }
-    requires new { AllByRecursion (λ keep. K.kept keep ≡ new_kept) keeps.items }
     ensures nodes { IfOk result (λ cluster. cluster ≡ length setup.now.weights) }
     ensures only_memory { IsOkUnless result Memory }
 {
@@ -109,11 +106,10 @@ fn share<G: Gate + Drop, K: Keep<Carried>>(
     keeps: Vec<K>,
 ) -> Result<(Arc<SharedNodes<G, K>>, Vec<Receiver<u64>>), StepFault>
     requires keeps { length keeps.items ≡ length setup.now.weights }
-    requires new { AllByRecursion (λ keep. K.kept keep ≡ new_kept) keeps.items }
     ensures cells { IfOk result (λ parts. vec_len (arc_value parts.0).cells ≡ length setup.now.weights) }
     ensures only_memory { IsOkUnless result Memory }
 {
-    let (switch, cells) = cells(
+    let (switch, cells) = resume_cells(
         alloc,
         setup.weights,
         setup.event_limit,

@@ -1,13 +1,9 @@
 //! Runs a command line.
-use crate::databases::{answer_question, print_outline};
-use crate::fault::Fault;
-use crate::pages::write_pages;
 use crate::play::play;
 use crate::play_picture::print_picture;
 use crate::serve::serve;
-use crate::streams::print;
-use crate::works::print_work;
 use commands::{CommandLineFault, Request, VERSION, parse_command_line};
+use questions::{Fault, answer_question, print, print_outline, print_work, write_pages};
 use sites::Folder;
 use std::alloc::AllocError;
 use std::io::{Read, Write};

@@ -14,7 +14,6 @@ ghost use Rattle.printed.specs.States.{state_text};
 ghost use Rattle.event_lines.specs.EventLines.{counted_event_lines};
 ghost use Rattle.program.specs.Answers.{IsLabelAnswer};
 
-use crate::fault::Fault;
 use crate::node_answers::{ahead_line, label_answer};
 use crate::served_nodes::NodesDesk;
 use crate::why::{Decision, decision_of, push_why};
@@ -22,6 +21,7 @@ use cluster::NodeCell;
 use commands::{NodeEntryId, NodePair, NodeQuestion};
 use event_lines::push_events;
 use printed::{push_carried_log, push_export, push_health, push_state};
+use questions::Fault;
 use std::alloc::{AllocError, Global};
 use std::sync::Wait;
 use world::Carried;

@@ -6,14 +6,12 @@ ghost use Rattle.commands.specs.declared.node_question.LabelQuestionKind.TheVari
 ghost use Rattle.printed.specs.Counted.{counted_lines_text};
 ghost use Rattle.program.specs.Answers.{IsLabelAnswer, labels_text};
 
-use crate::answers::{derivation_lines, write_answer};
-use crate::fault::Fault;
-use crate::named_text::NamedText;
 use cluster::Ahead;
 use commands::{LabelQuestionKind, NodeQuestion};
 use library::Library;
 use mm_lex::Word;
 use printed::{push_counted_lines, push_labels};
+use questions::{Fault, NamedText, derivation_lines, write_answer};
 use std::alloc::{AllocError, Global};
 
 /// Returns the answer to a question about a label: its word, the count of its lines, and the lines

@@ -2,7 +2,6 @@
 ghost use Rattle.std.specs.Prelude.{◌≡◌, ◌++◌, OnOk};
 ghost use Rattle.event_lines.specs.EventLines.{counted_event_lines};
 
-use crate::fault::Fault;
 use crate::node_answers::{ahead_line, compare_libraries, label_answer};
 use crate::scripts::{AnswerLines, answer_lines, read_script};
 use crate::why::{decision_of, push_why};
@@ -13,6 +12,7 @@ use net::Event;
 use printed::{
     push_export, push_library_list, push_log, push_ok, push_packet, push_state, push_verdict_line,
 };
+use questions::Fault;
 use std::alloc::{AllocError, Global};
 use std::io::{Read, Write};
 use std::vec::IntoIter;

@@ -1,10 +1,9 @@
 //! The command `play --picture`: the picture of the run that a script makes.
-use crate::fault::Fault;
 use crate::scripts::read_script;
-use crate::streams::print;
 use commands::{CommonLine, PicturedSteps, PlayLine, PlayOptions};
 use net::{Event, StepFault};
-use run_pictures::{Run, StepRange, draw};
+use questions::{Fault, print};
+use run_pictures::{PictureFault, Run, StepRange, draw};
 use std::alloc::{AllocError, Global};
 use std::io::{Read, Write};
 use synod::Weights;
@@ -77,7 +76,11 @@ fn play_and_draw(
             return Err(Fault::Memory(AllocError));
         }
     }
-    Ok(draw(alloc, weights, run, range)?)
+    match draw(alloc, weights, run, range) {
+        Ok(picture) => Ok(picture),
+        Err(PictureFault::TooManySteps) => Err(Fault::LongRun),
+        Err(PictureFault::Memory) => Err(Fault::Memory(AllocError)),
+    }
 }
 
 /// Takes the step of a line, if it has one.

@@ -1,7 +1,6 @@
 //! Scripts and sessions (`serve --live`): their lines, answered one by one.
-use crate::fault::Fault;
-use crate::streams::{print, read_at_most};
 use commands::{Line, parse_script};
+use questions::{Fault, print, read_at_most};
 use std::alloc::Global;
 use std::io::{Read, Write};
 use std::vec::IntoIter;

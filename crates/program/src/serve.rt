@@ -8,11 +8,9 @@ ghost use Rattle.nodes.specs.Desk.{IsListed, IsStatus};
 ghost use Rattle.printed.specs.Printed.{list_text};
 
 use crate::desk_answers::AnsweringDesk;
-use crate::fault::Fault;
 use crate::scripts::{AnswerLines, LineSource, answer_lines};
 use crate::served_nodes::{Nodes, NodesDesk, start_nodes, stop_nodes};
 use crate::session::{Script, ServedLine, Session};
-use crate::streams::print;
 use commands::{
     CommonLine, LINE_FEED, NodeEntryId, OfferedEntry, SERVE_LINES_HELP, ServeLine, ServeOptions,
     SessionLine,
@@ -20,6 +18,7 @@ use commands::{
 use library::Verdict;
 use net::StepFault;
 use printed::{push_counted_lines, push_list, push_verdict_line};
+use questions::{Fault, print};
 use std::alloc::Global;
 use std::io::{Read, Write};
 use std::sync::Wait;

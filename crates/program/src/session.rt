@@ -2,12 +2,12 @@
 //! (`serve --live`), in which each line is answered before the next one is read.
 ghost use Rattle.std.specs.Prelude.{◌≤◌, OnOk, vec_len};
 
-use crate::fault::Fault;
 use crate::scripts::{LineSource, read_script};
 use commands::{
     LINE_FEED, ScriptFault, ServeLine, SessionLine, TextEnd, expected_form, first_word,
     parse_script, text_end,
 };
+use questions::Fault;
 use std::alloc::{AllocError, Global};
 use std::io::{BufRead, BufReader, ErrorKind, Read};
 use std::vec::IntoIter;

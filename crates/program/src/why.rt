@@ -1,7 +1,5 @@
 //! Why a node refused an entry: the entry is checked again after exactly the statements that the
 //! library had when it was decided.
-use crate::fault::Fault;
-use crate::refused_texts::fault_of;
 use bytes::Bytes;
 use commands::NodeEntryId;
 use explanation::{DatabaseFault, explain_after};
@@ -9,6 +7,7 @@ use library::{Cause, Entry, Library, Verdict};
 use mm_read::{ReadFault, read};
 use places::{line_and_column, token_span};
 use printed::push_counted_lines;
+use questions::{Fault, fault_of};
 use std::alloc::{AllocError, Global};
 use std::collections::BTreeSet;
 use text::push_number;

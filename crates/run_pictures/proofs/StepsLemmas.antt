@@ -46,9 +46,9 @@ next_is history e = refl
 steps_of-with_event : (history : History Carried) (e : Event Carried) → steps_of (with_event history e) ≡ steps_of history ++ next_step history e ∷ []
 unfolding next_step
 steps_of-with_event history e =
-    steps_from-append 0 (events_result carried_size [] (world_of carried_size (record { weights = history.weights; event_limit = history.event_limit; events = [] }))) history.events e
+    steps_from-append 0 (events_result carried_size [] (world_of carried_size (record { weights = history.weights; event_limit = history.event_limit; begins = history.begins; events = [] }))) history.events e
     ∙ ap (λ n. steps_of history ++ step_of n (world_of carried_size history) e (after_one_more (world_of carried_size history) e) ∷ []) (omega arith)
-    ∙ ap (λ s. steps_of history ++ step_of (length history.events) (world_of carried_size history) e s ∷ []) (sym (last_happens history.events e (world_of carried_size (record { weights = history.weights; event_limit = history.event_limit; events = [] }))))
+    ∙ ap (λ s. steps_of history ++ step_of (length history.events) (world_of carried_size history) e s ∷ []) (sym (last_happens history.events e (world_of carried_size (record { weights = history.weights; event_limit = history.event_limit; begins = history.begins; events = [] }))))
 
 -- the filter keeps the step of an event
 kept_one : (s : Step) → is_event s ≡ true → filter is_event (s ∷ []) ≡ s ∷ []

@@ -4,15 +4,15 @@
 -- The code records a step as the world takes its event; here the steps are computed from the
 -- history.
 -- Events and acts have variants of the same names; here those of acts are `Offering` and so on.
-use Rattle.std.specs.Prelude.{ℕ, suc, Bool, true, false, List, [], ◌∷◌, Option, Some, None, Result, length, slice_get}
+use Rattle.std.specs.Prelude.{ℕ, suc, Bool, true, false, List, [], ◌∷◌, Option, Some, None, Result, Ok, length, slice_get}
 use Rattle.synod.specs.declared.node.state.NodeState.{NodeState}
 use Rattle.synod.specs.declared.packet.Packet.{Packet}
 use Rattle.net.specs.declared.event.Event.{Event}
 use Rattle.net.specs.declared.event.Event.TheVariants.{Offer, Begin, Deliver, Restart}
 use Rattle.net.specs.declared.fault.StepFault.{StepFault}
-use Rattle.net.specs.World.{World, after, events_result, packets_after}
+use Rattle.net.specs.World.{World, events_result, packets_after}
 use Rattle.net.specs.NodeStates.{state_after}
-use Rattle.net.specs.History.{History}
+use Rattle.net.specs.History.{History, first_world}
 use Rattle.world.specs.declared.carried.Carried.{Carried}
 use Rattle.world.specs.Carried.{carried_size}
 use Rattle.run_pictures.specs.declared.step.Step.{Step}
@@ -78,7 +78,7 @@ steps_from index r (e ∷ es) = step_of index r e (after_one_more r e) ∷ steps
 
 -- the steps of a history, in order, one for each event
 abbrev pub steps_of : History Carried → List Step
-steps_of history = steps_from 0 (after carried_size history.weights history.event_limit []) history.events
+steps_of history = steps_from 0 (Ok (first_world history)) history.events
 
 -- the act is that of an event, not the application of an entry
 abbrev pub is_event_act : Act → Bool

@@ -1,5 +1,5 @@
 -- A prefix of a node's log remains one after any event other than a restart of that node.
-use Rattle.switch.proofs.Words.{◌≡◌, ◌≢◌, ℕ, ◌<◌, ◌==◌, Bool, true, false, List, [], ◌∷◌, ◌++◌, length, slice_get, inl, inr, Option, Some, None, Result, Ok, Err, refl, ap, sym, ◌∙◌, subst, arith, nat_lt, ◌+◌, IsSome, OnErr, option_map, nat_tests, length-set, Packet, Change, Refusal, Node, StepResult, offer_result, begin_result, on_packet, restarted, Event, Offer, Begin, Deliver, Restart, StepFault, World, at_node, delivered, event_result_without_limit, event_result, log, log_after, events_result, start, IsAfter, IsPrefixOf, node_of, change_of, IfTaken, if_taken, spent_or, events_result-append, after-push, log_grows, then_begins, Status, up, down, StoreView, SwitchView, world_of, with_store, ViewFitsNode, AreStores, is_down, is_down_view, is_down_at, pending_on_failure, change_of_pending, pending_events, FailsAt, IsOutcomeAt, IsEffectUnlessDown, IsRecoveryOutcome, IsEffectOfRecovery, IsEffectAtDownNode, IsEffect, IsLogPrefix, KeepsPrefixes, EventKeepsPrefixes, append-nil}
+use Rattle.switch.proofs.Words.{◌≡◌, ◌≢◌, ℕ, ◌<◌, ◌==◌, Bool, true, false, List, [], ◌∷◌, ◌++◌, length, slice_get, inl, inr, Option, Some, None, Result, Ok, Err, refl, ap, sym, ◌∙◌, subst, arith, nat_lt, ◌+◌, IsSome, OnErr, option_map, nat_tests, length-set, Packet, Change, Refusal, Node, StepResult, offer_result, begin_result, on_packet, restarted, Event, Offer, Begin, Deliver, Restart, StepFault, World, at_node, delivered, event_result_without_limit, event_result, log, log_after, events_result, IsAfter, first_world, history_of, IsPrefixOf, node_of, change_of, IfTaken, if_taken, spent_or, events_result-append, after-push, log_grows, then_begins, Status, up, down, unloaded, StoreView, SwitchView, world_of, with_store, ViewFitsNode, AreStores, IsReloadOutcome, is_down, is_down_view, is_down_at, is_unloaded, is_unloaded_view, is_unloaded_at, pending_on_failure, change_of_pending, pending_events, FailsAt, IsOutcomeAt, IsEffectUnlessDown, IsRecoveryOutcome, IsEffectOfRecovery, IsEffectAtDownNode, IsEffect, IsLogPrefix, KeepsPrefixes, EventKeepsPrefixes, append-nil}
 use Rattle.switch.specs.Switch.{with_event}
 
 -- The node of an event that is taken exists.
@@ -69,7 +69,7 @@ module _ {V : Type 0} (size : V → ℕ) (old : SwitchView V) where
         → (j : ℕ) (entries : List (Option V)) → e ≢ Restart j → IsLogPrefix size old j entries → IsLogPrefix size new j entries
     taken_stays new k view change e x happened is j entries other h =
         longer_stays new x
-        (ap (λ (s : SwitchView V). world_of size s) is ∙ after-push size old.weights old.event_limit old.history w e was ∙ happened)
+        (ap (λ (s : SwitchView V). world_of size s) is ∙ after-push size (history_of old) w e was ∙ happened)
         (ap (λ (s : SwitchView V). length s.stores) is ∙ length-set old.stores k _)
         j entries (log_goes_on size w e x happened j other) h
 
@@ -85,20 +85,20 @@ module _ {V : Type 0} (size : V → ℕ) (old : SwitchView V) where
 -- A restart.
 
 -- if P holds, it holds if the result is an error
-on_err : {A E P : Type 0} (r : Result A E) → P → OnErr r P
+pub on_err : {A E P : Type 0} (r : Result A E) → P → OnErr r P
 on_err (Ok a) p = tt
 on_err (Err e) p = p
 
 -- the world before the last of the events
-record Before {V : Type 0} (size : V → ℕ) (ws : List ℕ) (limit : ℕ) (es : List (Event V)) (e : Event V) (x : World V) : Type 0 where
+record Before {V : Type 0} (size : V → ℕ) (old : SwitchView V) (es : List (Event V)) (e : Event V) (x : World V) : Type 0 where
   mid : World V
-  is_after : IsAfter size ws limit es mid
+  is_after : IsAfter size old es mid
   happened : event_result size mid e ≡ Ok x
 
 -- a history that ends in an event has a world before it, in which the event happens
-before : {V : Type 0} (size : V → ℕ) (ws : List ℕ) (limit : ℕ) (es : List (Event V)) (e : Event V) (x : World V) → IsAfter size ws limit (es ++ e ∷ []) x → Before size ws limit es e x
-before {V} size ws limit es e x is = from (events_result size es (Ok (start ws limit))) refl (sym (events_result-append size es (e ∷ []) (Ok (start ws limit))) ∙ is) where
-  from : (r : Result (World V) StepFault) → events_result size es (Ok (start ws limit)) ≡ r → events_result size (e ∷ []) r ≡ Ok x → Before size ws limit es e x
+before : {V : Type 0} (size : V → ℕ) (old : SwitchView V) (es : List (Event V)) (e : Event V) (x : World V) → IsAfter size old (es ++ e ∷ []) x → Before size old es e x
+before {V} size old es e x is = from (events_result size es (Ok (first_world (history_of old)))) refl (sym (events_result-append size es (e ∷ []) (Ok (first_world (history_of old)))) ∙ is) where
+  from : (r : Result (World V) StepFault) → events_result size es (Ok (first_world (history_of old))) ≡ r → events_result size (e ∷ []) r ≡ Ok x → Before size old es e x
   from (Ok m) at last = record { mid = m; is_after = at; happened = last }
   from (Err fault) at last = let no : Err fault ≡ Ok x = last in cc
 
@@ -146,13 +146,13 @@ module _ {V : Type 0} (size : V → ℕ) (old : SwitchView V) (w : World V) (was
 
   -- if the event that node j owes is taken, the log of each other node is a prefix of the one after
   -- it
-  owed_goes_on : (j : ℕ) (e : Option (Event V)) → ((ev : Event V) → e ≡ Some ev → node_of w ev ≡ Some j) → (m : World V) → IsAfter size old.weights old.event_limit (old.history ++ pending_events e) m → (k : ℕ) → k ≢ j → IsPrefixOf (log w k) (log m k)
+  owed_goes_on : (j : ℕ) (e : Option (Event V)) → ((ev : Event V) → e ≡ Some ev → node_of w ev ≡ Some j) → (m : World V) → IsAfter size old (old.history ++ pending_events e) m → (k : ℕ) → k ≢ j → IsPrefixOf (log w k) (log m k)
   owed_goes_on j None pending m is k other =
-      let both : Ok w ≡ Ok m = sym was ∙ ap (λ (es : List (Event V)). world_of size (record { weights = old.weights; event_limit = old.event_limit; history = es; stores = old.stores })) (sym (append-nil old.history)) ∙ is in
+      let both : Ok w ≡ Ok m = sym was ∙ ap (λ (es : List (Event V)). world_of size (record { weights = old.weights; event_limit = old.event_limit; begins = old.begins; history = es; stores = old.stores })) (sym (append-nil old.history)) ∙ is in
       let same : w ≡ m = cc in
       ([], append-nil (log w k) ∙ ap (λ (x : World V). log x k) same)
   owed_goes_on j (Some ev) pending m is k other =
-      let happened : event_result size w ev ≡ Ok m = sym (after-push size old.weights old.event_limit old.history w ev was) ∙ is in
+      let happened : event_result size w ev ≡ Ok m = sym (after-push size (history_of old) w ev was) ∙ is in
       let not : ev ≢ Restart k = λ same. (let both : Some j ≡ Some k = sym (pending ev refl) ∙ ap (λ (e : Event V). node_of w e) same in let number : j ≡ k = cc in other (sym number)) in
       log_goes_on size w ev m happened k not
 
@@ -162,7 +162,7 @@ module _ {V : Type 0} (size : V → ℕ) (old : SwitchView V) (w : World V) (was
   recovered_logs j view e pending (Ok count) h = record {
     others = λ k entries other b.
         (let apart : k ≢ j = λ same. other (ap (λ (i : ℕ). let r : Event V = Restart i in r) (sym same)) in
-        let mid = before size old.weights old.event_limit (old.history ++ pending_events e) (Restart j) h.world h.is_after in
+        let mid = before size old (old.history ++ pending_events e) (Restart j) h.world h.is_after in
         longer_stays size old w was new h.world (ap (λ (s : SwitchView V). world_of size s) h.rest ∙ h.is_after) counted k entries
         (then_begins (log w k) (log mid.mid k) (log h.world k) (owed_goes_on j e pending mid.mid mid.is_after k apart) (log_goes_on size mid.mid (Restart j) h.world mid.happened k other)) b);
     after_error = tt;
@@ -173,30 +173,57 @@ module _ {V : Type 0} (size : V → ℕ) (old : SwitchView V) (w : World V) (was
   recovered_logs j view e pending (Err fault) (inl h) = logs_store size old (Restart j) new (Err fault) j (record { kept = h.1.kept; failures = view.failures; status = view.status }) h.1.rest
   recovered_logs j view e pending (Err fault) (inr h) = logs_fail size old (Restart j) new (Err fault) j view (change_of_pending size w e) view.status h.1
 
-  -- An event that a node owes is one of its own events.
-  module _ (pending : (j : ℕ) (view : StoreView V) → slice_get old.stores j ≡ Some view → (ev : Event V) → view.status ≡ down (Some ev) → node_of w ev ≡ Some j) where
-    -- an event whose node is down keeps the logs
-    down_logs : (e : Event V) (result : Result ℕ StepFault) → is_down_at old.stores (node_of w e) ≡ true → IsEffectAtDownNode size w old new e result → EventKeepsPrefixes size e old new result
-    down_logs (Offer k v) result test effect = logs_same size old (Offer k v) new result effect.1
-    down_logs (Begin k) result test effect = logs_same size old (Begin k) new result effect.1
-    down_logs (Deliver number) result test effect = logs_same size old (Deliver number) new result effect.1
-    down_logs (Restart j) result test effect = by_view (slice_get old.stores j) refl where
-      by_room : (view : StoreView V) (e : Option (Event V)) → ((ev : Event V) → e ≡ Some ev → node_of w ev ≡ Some j) → IsEffectOfRecovery size w old new j view e result → (t : Bool) → nat_lt old.event_limit (length old.history + 2) ≡ t → EventKeepsPrefixes size (Restart j) old new result
-      by_room view e own recovers true test = logs_same size old (Restart j) new result (recovers.spent (grind (arith, nat_tests))).1
-      by_room view e own recovers false test = recovered_logs j view e own result (recovers.recovered (grind (arith, nat_tests)))
+-- what holds after an error of one call holds after it of both
+then_err : {A E P Q : Type 0} (r : Result A E) → (P → Q) → OnErr r P → OnErr r Q
+then_err (Ok a) more p = tt
+then_err (Err e) more p = more p
 
-      by_standing : (view : StoreView V) → slice_get old.stores j ≡ Some view → (s : Status (Event V)) → view.status ≡ s → EventKeepsPrefixes size (Restart j) old new result
-      by_standing view at up stands =
-          let no : false ≡ true = sym (ap (λ (o : Option (StoreView V)). is_down_view o) at ∙ ap (λ (s : Status (Event V)). is_down s) stands) ∙ test in cc
-      by_standing view at (down e) stands = by_room view e (λ ev is. pending j view at ev (stands ∙ ap (λ (o : Option (Event V)). let s : Status (Event V) = down o in s) is)) (effect view at e stands) (nat_lt old.event_limit (length old.history + 2)) refl
+-- a restart of a node that is unloaded keeps the logs
+reload_logs : {V : Type 0} (size : V → ℕ) (old new : SwitchView V) (j : ℕ) (result : Result ℕ StepFault) → IsReloadOutcome size old new j result → EventKeepsPrefixes size (Restart j) old new result
+reload_logs size old new j result (inl h) = logs_fail size old (Restart j) new result j h.1.view None unloaded h.1.fails
+reload_logs {V} size old new j result (inr h) = record {
+  others = λ k entries other b. restarts.others k entries other (stays k entries b);
+  after_error = then_err result (λ keeps k entries b. keeps k entries (stays k entries b)) restarts.after_error;
+  nodes = restarts.nodes ∙ counted;
+} where
+  counted : length h.0.stores ≡ length old.stores
+  counted = ap (λ (s : SwitchView V). length s.stores) h.1.rest ∙ length-set old.stores j _
 
-      by_view : (o : Option (StoreView V)) → slice_get old.stores j ≡ o → EventKeepsPrefixes size (Restart j) old new result
-      by_view None none = let no : false ≡ true = sym (ap (λ (o : Option (StoreView V)). is_down_view o) none) ∙ test in cc
-      by_view (Some view) at = by_standing view at view.status refl
+  restarts : EventKeepsPrefixes size (Restart j) h.0 new result
+  restarts = up_logs size h.0 h.1.world h.1.is_after h.1.stores new (Restart j) result (h.2 h.1.world h.1.is_after)
 
-    -- each event keeps the logs
-    pub acts_logs : (e : Event V) (result : Result ℕ StepFault) → IsEffect size w old new e result → EventKeepsPrefixes size e old new result
-    acts_logs e result effect = by_test (is_down_at old.stores (node_of w e)) refl where
-      by_test : (t : Bool) → is_down_at old.stores (node_of w e) ≡ t → EventKeepsPrefixes size e old new result
-      by_test true test = down_logs e result test (effect.is_down test)
-      by_test false test = up_logs e result (effect.is_up test)
+  stays : (k : ℕ) (entries : List (Option V)) → IsLogPrefix size old k entries → IsLogPrefix size h.0 k entries
+  stays k entries b = record {
+    node = subst (λ (n : ℕ). k < n) (sym counted) b.node;
+    begins = subst (λ (es : List (Option V)). IsPrefixOf entries es) (sym (h.1.logs k)) b.begins;
+  }
+
+-- An event that a node owes is one of its own events.
+module _ {V : Type 0} (size : V → ℕ) (old : SwitchView V) (w : World V) (was : world_of size old ≡ Ok w) (stores : AreStores size w old.stores) (new : SwitchView V)
+    (pending : (j : ℕ) (view : StoreView V) → slice_get old.stores j ≡ Some view → (ev : Event V) → view.status ≡ down (Some ev) → node_of w ev ≡ Some j) where
+  -- an event whose node is down keeps the logs
+  down_logs : (e : Event V) (result : Result ℕ StepFault) → is_down_at old.stores (node_of w e) ≡ true → ((k : ℕ) → e ≡ Restart k → is_unloaded_at old.stores k ≡ true → IsReloadOutcome size old new k result) → IsEffectAtDownNode size w old new e result → EventKeepsPrefixes size e old new result
+  down_logs (Offer k v) result test stays effect = logs_same size old (Offer k v) new result effect.1
+  down_logs (Begin k) result test stays effect = logs_same size old (Begin k) new result effect.1
+  down_logs (Deliver number) result test stays effect = logs_same size old (Deliver number) new result effect.1
+  down_logs (Restart j) result test stays effect = by_view (slice_get old.stores j) refl where
+    by_room : (view : StoreView V) (e : Option (Event V)) → ((ev : Event V) → e ≡ Some ev → node_of w ev ≡ Some j) → IsEffectOfRecovery size w old new j view e result → (t : Bool) → nat_lt old.event_limit (length old.history + 2) ≡ t → EventKeepsPrefixes size (Restart j) old new result
+    by_room view e own recovers true test = logs_same size old (Restart j) new result (recovers.spent (grind (arith, nat_tests))).1
+    by_room view e own recovers false test = recovered_logs size old w was stores new j view e own result (recovers.recovered (grind (arith, nat_tests)))
+
+    by_standing : (view : StoreView V) → slice_get old.stores j ≡ Some view → (s : Status (Event V)) → view.status ≡ s → EventKeepsPrefixes size (Restart j) old new result
+    by_standing view at up stands =
+        let no : false ≡ true = sym (ap (λ (o : Option (StoreView V)). is_down_view o) at ∙ ap (λ (s : Status (Event V)). is_down s) stands) ∙ test in cc
+    by_standing view at (down e) stands = by_room view e (λ ev is. pending j view at ev (stands ∙ ap (λ (o : Option (Event V)). let s : Status (Event V) = down o in s) is)) (effect view at e stands) (nat_lt old.event_limit (length old.history + 2)) refl
+    by_standing view at unloaded stands = reload_logs size old new j result (stays j refl (ap (λ (o : Option (StoreView V)). is_unloaded_view o) at ∙ ap (λ (s : Status (Event V)). is_unloaded s) stands))
+
+    by_view : (o : Option (StoreView V)) → slice_get old.stores j ≡ o → EventKeepsPrefixes size (Restart j) old new result
+    by_view None none = let no : false ≡ true = sym (ap (λ (o : Option (StoreView V)). is_down_view o) none) ∙ test in cc
+    by_view (Some view) at = by_standing view at view.status refl
+
+  -- each event keeps the logs
+  pub acts_logs : (e : Event V) (result : Result ℕ StepFault) → IsEffect size w old new e result → EventKeepsPrefixes size e old new result
+  acts_logs e result effect = by_test (is_down_at old.stores (node_of w e)) refl where
+    by_test : (t : Bool) → is_down_at old.stores (node_of w e) ≡ t → EventKeepsPrefixes size e old new result
+    by_test true test = down_logs e result test effect.is_unloaded (effect.is_down test)
+    by_test false test = up_logs size old w was stores new e result (effect.is_up test)

@@ -1,16 +1,16 @@
 -- The answer of a call on one node, in the world after the history; contracts see only the fields.
-use Rattle.switch.proofs.Words.{◌≡◌, ℕ, ◌+◌, ◌<◌, false, List, [], ◌∷◌, ◌++◌, length, set, slice_get, inl, inr, Option, Some, None, Result, Ok, Err, refl, ap, sym, ◌∙◌, subst, arith, IfErr, OnOk, IsOkUnless, ForOk, slice_get_within, Packet, Change, KeptPart, changed_by, Node, StepResult, kept_of, Event, StepFault, Memory, Device, World, after_step, event_result, packets_after, History, world_of_taken, node_of_event, node_of, change_of, StagedEvent, NetView, IsStaged, IsEventAt, ChangesOnlyCapacity, IsTaken, change_in, step_of, after-push, length-nodes_of, Status, up, down, StoreState, IsRecordOf, IsWithOrWithout, Fails, pending_change, StoreView, SwitchView, pending_event, status_view, view_of, views_of, IsPendingStaged, IsSwitch, world_of, IsRecordIn, ViewFitsNode, AreStores, is_down_at, with_store, pending_on_failure, IsOutcomeAt, IsEffectUnlessDown, with_event}
+use Rattle.switch.proofs.Words.{◌≡◌, ℕ, ◌+◌, ◌<◌, false, List, [], ◌∷◌, ◌++◌, length, set, slice_get, inl, inr, Option, Some, None, Result, Ok, Err, refl, ap, sym, ◌∙◌, subst, arith, IfErr, OnOk, IsOkUnless, ForOk, slice_get_within, Packet, Change, KeptPart, changed_by, Node, StepResult, kept_of, Event, StepFault, Memory, Device, World, after_step, event_result, packets_after, History, world_of_taken, node_of_event, node_of, change_of, StagedEvent, NetView, IsStaged, IsEventAt, ChangesOnlyCapacity, IsTaken, change_in, step_of, after-push, length-nodes_of, Status, up, down, unloaded, StoreState, IsRecordOf, IsWithOrWithout, Fails, pending_change, StoreView, SwitchView, pending_event, status_view, view_of, views_of, IsPendingStaged, IsIdle, IsSwitch, UnloadedAreIdle, world_of, IsRecordIn, ViewFitsNode, AreStores, is_down_at, with_store, pending_on_failure, IsOutcomeAt, IsEffectUnlessDown, with_event}
 use Rattle.switch.proofs.StoresLemmas.{views_of-set, view_at, view_past, item_at, up_at}
 use Rattle.switch.proofs.SwitchLemmas.{switch_view, other_store, committed, node_is, at, happens_is, change_is, change_told, changes}
 
 -- views of a switch with equal parts are equal
-pub view_is_same : {V : Type 0} (ws us : List ℕ) (l m : ℕ) (hs gs : List (Event V)) (some others : List (StoreView V)) → ws ≡ us → l ≡ m → hs ≡ gs → some ≡ others
-    → let s : SwitchView V = record { weights = ws; event_limit = l; history = hs; stores = some } in s ≡ record { weights = us; event_limit = m; history = gs; stores = others }
-view_is_same ws us l m hs gs some others weights limit history stores = cc
+pub view_is_same : {V : Type 0} (ws us : List ℕ) (l m : ℕ) (bs cs : List (KeptPart V)) (hs gs : List (Event V)) (some others : List (StoreView V)) → ws ≡ us → l ≡ m → bs ≡ cs → hs ≡ gs → some ≡ others
+    → let s : SwitchView V = record { weights = ws; event_limit = l; begins = bs; history = hs; stores = some } in s ≡ record { weights = us; event_limit = m; begins = cs; history = gs; stores = others }
+view_is_same ws us l m bs cs hs gs some others weights limit begins history stores = cc
 
 -- if only rooms change, the view of the switch stays the same
 pub still_view : {V : Type 0} (a b : NetView V) (stores : List (StoreState V)) → ChangesOnlyCapacity a b → switch_view b stores ≡ switch_view a stores
-still_view {V} a b stores only_capacity = ap (λ (t : History V). let s : SwitchView V = record { weights = t.weights; event_limit = t.event_limit; history = t.events; stores = views_of stores } in s) only_capacity.history
+still_view {V} a b stores only_capacity = ap (λ (t : History V). let s : SwitchView V = record { weights = t.weights; event_limit = t.event_limit; begins = t.begins; history = t.events; stores = views_of stores } in s) only_capacity.history
 
 module _ {V : Type 0} (size : V → ℕ) (net : NetView V) (stores : List (StoreState V)) (h : IsSwitch size net stores) (now : SwitchView V) (seen : switch_view net stores ≡ now) where
   abbrev w : World V
@@ -33,7 +33,7 @@ module _ {V : Type 0} (size : V → ℕ) (net : NetView V) (stores : List (Store
 
   -- the world after the history with one more event is the result of the event in this world
   next_is : (e : Event V) → world_of_taken size (with_event net.history e) ≡ event_result size w e
-  next_is e = after-push size net.history.weights net.history.event_limit net.history.events w e h.world.is_after
+  next_is e = after-push size net.history w e h.world.is_after
 
   -- the node of an event is the same by the packets of the fields and in the world
   pub node_seen : (e : Event V) (o : Option ℕ) → o ≡ node_of_event net.packets e → ForOk (world_of size now) (λ x. node_of x e ≡ o)
@@ -64,6 +64,7 @@ module _ {V : Type 0} (size : V → ℕ) (net : NetView V) (stores : List (Store
   record_in : (n : Node V) (k : ℕ) (s : Status (StagedEvent V)) (kept : KeptPart V) → IsRecordOf n s kept → IsPendingStaged size net k s → IsRecordIn size w n (status_view s) kept
   record_in n k up kept fits pending_staged = fits
   record_in n k (down None) kept fits pending_staged = fits
+  record_in n k unloaded kept fits pending_staged = tt
   record_in n k (down (Some o)) kept fits pending_staged = subst (λ (c : Option (Change V)). IsWithOrWithout (kept_of n) c kept) (change_told size net stores h o pending_staged.1) fits
 
   -- at each number there are a node and its view, or neither
@@ -81,6 +82,23 @@ module _ {V : Type 0} (size : V → ℕ) (net : NetView V) (stores : List (Store
   -- the views are those of the world after the history
   pub stores_are : ForOk (world_of size now) (λ x. AreStores size x now.stores)
   stores_are = of_world (λ s x. AreStores size x s.stores) (λ k. store_seen k (slice_get w.nodes k) refl (slice_get stores k) refl)
+
+  -- nothing happened at a store that is unloaded
+  idle_in : (k : ℕ) (s : Status (StagedEvent V)) → IsPendingStaged size net k s → status_view s ≡ unloaded → IsIdle size net.history k
+  idle_in k up o is = cc
+  idle_in k (down e) o is = cc
+  idle_in k unloaded o is = o
+
+  idle_seen : (k : ℕ) (o : Option (StoreState V)) → slice_get stores k ≡ o → (view : StoreView V) → slice_get (views_of stores) k ≡ Some view → view.status ≡ unloaded → IsIdle size net.history k
+  idle_seen k None none view at is = let no : None ≡ Some view = sym (view_past stores k none) ∙ at in cc
+  idle_seen k (Some store) there view at is =
+      let both : Some (view_of store) ≡ Some view = sym (view_at stores k store there) ∙ at in
+      let same : view_of store ≡ view = cc in
+      let n = node_there k store there in
+      idle_in k store.status (h.each k n.0 store n.1 there).pending_staged (ap (λ (p : StoreView V). p.status) same ∙ is)
+
+  pub unloaded_idle : UnloadedAreIdle size now
+  unloaded_idle = subst (λ (s : SwitchView V). UnloadedAreIdle size s) seen (λ k view at is. idle_seen k (slice_get stores k) refl view at is)
 
   -- An event that was not readied.
 
@@ -165,7 +183,7 @@ module _ {V : Type 0} (size : V → ℕ) (net : NetView V) (stores : List (Store
           record {
             kept = new.kept;
             either = subst (λ (c : Option (Change V)). IsWithOrWithout store.kept c new.kept) is_change fails.kept;
-            rest = ap (λ (ps : List (StoreView V)). let s : SwitchView V = record { weights = net.history.weights; event_limit = net.history.event_limit; history = net.history.events; stores = ps } in s) (views_of-set stores d1.at new)
+            rest = ap (λ (ps : List (StoreView V)). let s : SwitchView V = record { weights = net.history.weights; event_limit = net.history.event_limit; begins = net.history.begins; history = net.history.events; stores = ps } in s) (views_of-set stores d1.at new)
                 ∙ ap (λ (s : StoreState V). with_store old d1.at (view_of s)) fails.rest
                 ∙ ap (λ (f : Option (Event V)). with_store old d1.at record { kept = new.kept; failures = store.failures + 1; status = down f }) is_staged;
           },
@@ -186,7 +204,7 @@ module _ {V : Type 0} (size : V → ℕ) (net : NetView V) (stores : List (Store
         -- the count of packets is the right answer to the event
         pub played_acts : (count : ℕ) → count ≡ length (packets_after (world_of_taken size b.history)) → ForOk (world_of size now) (λ x. IsEffectUnlessDown size x now (switch_view b (set stores d1.at new)) e (Ok count))
         played_acts count counted = of_world (λ s x. IsEffectUnlessDown size x s (switch_view b (set stores d1.at new)) e (Ok count)) (told (switch_view b (set stores d1.at new)) (Ok count) (
-          view_is_same _ _ _ _ _ _ _ _ (ap (λ (x : History V). x.weights) t.history) (ap (λ (x : History V). x.event_limit) t.history) (ap (λ (x : History V). x.events) t.history ∙ ap (λ (f : Event V). net.history.events ++ f ∷ []) is_e)
+          view_is_same _ _ _ _ _ _ _ _ _ _ (ap (λ (x : History V). x.weights) t.history) (ap (λ (x : History V). x.event_limit) t.history) (ap (λ (x : History V). x.begins) t.history) (ap (λ (x : History V). x.events) t.history ∙ ap (λ (f : Event V). net.history.events ++ f ∷ []) is_e)
               (views_of-set stores d1.at new ∙ ap (λ (s : StoreState V). set (views_of stores) d1.at (view_of s)) stored),
           counted ∙ ap (λ (r : Result (World V) StepFault). length (packets_after r)) world_then,
         ))

@@ -1,7 +1,7 @@
 -- The count of nodes, the dispatch of an event by its node, and a call in terms of the variables of
 -- its function.
-use Rattle.switch.proofs.Words.{◌≡◌, ℕ, ◌<◌, Bool, true, false, List, length, get_or, set, slice_get, Option, Some, Result, Ok, Err, refl, ap, sym, ◌∙◌, subst, arith, ForOk, slice_get_within, slice_get_read, Change, changed_by, kept_of, Event, Offer, Begin, Deliver, Restart, StepFault, Device, Down, World, packets_after, History, world_of_taken, node_of, StagedEvent, NetView, IsStaged, ChangesOnlyCapacity, IsTaken, change_in, count_shown, up, down, StoreState, Fails, pending_change, SwitchView, pending_event, IsPendingStaged, IsSwitch, world_of, is_down_at, pending_on_failure, IsEffectUnlessDown, IsEffectAtDownNode, IsEffect}
-use Rattle.switch.proofs.StoresLemmas.{count_views}
+use Rattle.switch.proofs.Words.{◌≡◌, ℕ, ◌<◌, Bool, true, false, List, length, get_or, set, slice_get, Option, Some, Result, Ok, Err, refl, ap, sym, ◌∙◌, subst, arith, ForOk, slice_get_within, slice_get_read, Change, changed_by, kept_of, Event, Offer, Begin, Deliver, Restart, StepFault, Device, Down, World, packets_after, History, world_of_taken, node_of, StagedEvent, NetView, IsStaged, ChangesOnlyCapacity, IsTaken, change_in, count_shown, Status, up, down, StoreState, StoreView, is_unloaded, is_unloaded_view, Fails, pending_change, SwitchView, pending_event, IsPendingStaged, IsSwitch, IsReloadOutcome, world_of, is_down_at, is_unloaded_at, pending_on_failure, IsEffectUnlessDown, IsEffectAtDownNode, IsEffect}
+use Rattle.switch.proofs.StoresLemmas.{count_views, unloaded_is_down}
 use Rattle.switch.proofs.SwitchLemmas.{switch_view, still_switch}
 use Rattle.switch.proofs.CallLemmas.{still_view, after_is, is_up_at, kept_up, failed, failed_acts, played, played_acts}
 
@@ -18,12 +18,19 @@ module _ {V : Type 0} (size : V → ℕ) (now : SwitchView V) (e : Event V) (o :
 
   module _ (new : SwitchView V) (result : Result ℕ StepFault) where
     -- an event whose node is down has the effect of an event at a node that is down
-    pub down_acts : is_down_at now.stores o ≡ true → ForOk (world_of size now) (λ x. IsEffectAtDownNode size x now new e result) → ForOk (world_of size now) (λ x. IsEffect size x now new e result)
-    down_acts test effect = λ x d. record { is_down = λ yes. effect x d; is_up = λ no. (let never : true ≡ false = sym (test_at true test x d) ∙ no in cc) }
+    pub down_acts : is_down_at now.stores o ≡ true → ((k : ℕ) → e ≡ Restart k → is_unloaded_at now.stores k ≡ true → IsReloadOutcome size now new k result)
+        → ForOk (world_of size now) (λ x. IsEffectAtDownNode size x now new e result) → ForOk (world_of size now) (λ x. IsEffect size x now new e result)
+    down_acts test stays effect = λ x d. record { is_down = λ yes. effect x d; is_unloaded = stays; is_up = λ no. (let never : true ≡ false = sym (test_at true test x d) ∙ no in cc) }
 
     -- an event whose node is not down has the effect of an event at a node that is up
     pub up_acts : is_down_at now.stores o ≡ false → ForOk (world_of size now) (λ x. IsEffectUnlessDown size x now new e result) → ForOk (world_of size now) (λ x. IsEffect size x now new e result)
-    up_acts test effect = λ x d. record { is_down = λ yes. (let never : false ≡ true = sym (test_at false test x d) ∙ yes in cc); is_up = λ no. effect x d }
+    up_acts test effect = λ x d. record {
+      is_down = λ yes. (let never : false ≡ true = sym (test_at false test x d) ∙ yes in cc);
+      is_unloaded = λ k is yes.
+          (let at_k : node_of x e ≡ Some k = ap (λ (f : Event V). node_of x f) is in
+          let never : false ≡ true = sym (test_at false test x d) ∙ ap (λ (p : Option ℕ). is_down_at now.stores p) at_k ∙ unloaded_is_down now.stores k yes in cc);
+      is_up = λ no. effect x d;
+    }
 
 -- if its store fails, an event other than a restart is itself the pending one
 pub no_restart : {V : Type 0} (e : Event V) → ((k : ℕ) → e ≡ Restart k → ⊥) → pending_on_failure e ≡ Some e
@@ -38,6 +45,19 @@ refused_down size now (Offer k v) is = λ x d. (refl, refl)
 refused_down size now (Begin k) is = λ x d. (refl, refl)
 refused_down size now (Deliver number) is = λ x d. (refl, refl)
 refused_down size now (Restart k) is = cc
+
+-- what holds of a restart of node k, if that is unloaded, holds of an event that is this restart
+pub own_restart : {V : Type 0} (size : V → ℕ) (now new : SwitchView V) (result : Result ℕ StepFault) (e : Event V) (k : ℕ) → e ≡ Restart k → (is_unloaded_at now.stores k ≡ true → IsReloadOutcome size now new k result) → (j : ℕ) → e ≡ Restart j → is_unloaded_at now.stores j ≡ true → IsReloadOutcome size now new j result
+own_restart {V} size now new result e k is outcome j other there =
+    let both : (let f : Event V = Restart k in f) ≡ Restart j = sym is ∙ other in
+    let same : k ≡ j = cc in
+    subst (λ (i : ℕ). IsReloadOutcome size now new i result) same (outcome (ap (λ (i : ℕ). is_unloaded_at now.stores i) same ∙ there))
+
+-- a node that is unloaded owes no event
+pub none_owed : {V : Type 0} (size : V → ℕ) (now new : SwitchView V) (k : ℕ) (result : Result ℕ StepFault) → is_unloaded_at now.stores k ≡ true → ForOk (world_of size now) (λ x. IsEffectAtDownNode size x now new (Restart k) result)
+none_owed {V} size now new k result is = λ x d view at e stands.
+    let shown : is_unloaded_view (slice_get now.stores k) ≡ false = ap (λ (o : Option (StoreView V)). is_unloaded_view o) at ∙ ap (λ (s : Status (Event V)). is_unloaded s) stands in
+    let never : true ≡ false = sym is ∙ shown in cc
 
 -- A call in terms of the variables of its function: the event was readied, and the store is found
 -- by its number.

@@ -7,6 +7,8 @@ mod DispatchLemmas
 mod LoadLemmas
 mod OwedLemmas
 mod RecoveryLemmas
+mod ResumeLemmas
+mod ReloadLemmas
 mod RecoveryRefused
 mod BelongsLemmas
 mod TieLemmas

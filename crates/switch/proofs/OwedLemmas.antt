@@ -32,7 +32,7 @@ module _ {V : Type 0} (size : V → ℕ) (net : NetView V) (stores : List (Store
     -- a switch, and the net has the event and its posts
     pub owed_taken : (p : Option (StagedEvent V)) → IsPendingStaged size net k (down p) → IsRecordOf n (down p) store.kept → new.kept ≡ changed_by store.kept (pending_change p) → CommitsPending net m p
         → (switch : IsSwitch size m (set stores k new)) × (m.history.weights ≡ net.history.weights) × (m.history.events ≡ net.history.events ++ pending_events (pending_event p)) × (m.packets ≡ net.packets ++ pending_posts p)
-        × (net.packet_capacity ≤ m.packet_capacity) × (net.event_capacity ≤ m.event_capacity) × (m.history.event_limit ≡ net.history.event_limit)
+        × (net.packet_capacity ≤ m.packet_capacity) × (net.event_capacity ≤ m.event_capacity) × (m.history.event_limit ≡ net.history.event_limit) × (m.history.begins ≡ net.history.begins)
     owed_taken None q f kept same =
         let base : IsSwitch size net (set stores k new) = other_store size net stores h k n store new node_k found record {
           fits = subst (λ (s : Status (StagedEvent V)). IsRecordOf n s new.kept) (sym new_up) (kept ∙ with_either (kept_of n) store.kept None f);
@@ -45,6 +45,7 @@ module _ {V : Type 0} (size : V → ℕ) (net : NetView V) (stores : List (Store
           (let e = ap (λ (x : NetView V). x.packet_capacity) same in omega (arith, e)),
           (let e = ap (λ (x : NetView V). x.event_capacity) same in omega (arith, e)),
           ap (λ (x : NetView V). x.history.event_limit) same,
+          ap (λ (x : NetView V). x.history.begins) same,
         )
     owed_taken (Some staged) q f kept t =
         let low : length net.history.events < net.history.event_limit = omega (arith, room) in
@@ -60,4 +61,5 @@ module _ {V : Type 0} (size : V → ℕ) (net : NetView V) (stores : List (Store
           t.packet_capacity,
           t.event_capacity,
           ap (λ (x : History V). x.event_limit) t.history,
+          ap (λ (x : History V). x.begins) t.history,
         )

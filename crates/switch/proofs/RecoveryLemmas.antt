@@ -1,5 +1,5 @@
 -- The restart of a node that is down: the event that it owes is taken first.
-use Rattle.switch.proofs.Words.{◌≡◌, ℕ, ◌+◌, ◌<◌, ◌≤◌, true, List, [], ◌∷◌, ◌++◌, length, get_or, set, slice_get, inl, inr, Option, Some, None, Result, Ok, Err, refl, ap, sym, ◌∙◌, subst, arith, length-append, AllByRecursion, option_map, ForOk, length-set, slice_get_read, Packet, Ask, Change, IsPost, to_others, KeptPart, changed_by, Node, StepResult, kept_of, Core, reloaded, restarted, Event, Restart, StepFault, Memory, Device, World, packets_after, IsAfter, History, world_of_taken, kept_part, StagedWork, steps, restarts, StagedEvent, NetView, HasSpareCapacity, IsStaged, IsReadyAt, IsOfEvent, IsEventAt, HasResult, IsTaken, posts_of, step_of, with_loaded, with_record, at_set, set_twice, comes_restart, set_same, Status, up, down, StoreState, pending_of, pending_change, pending_posts, IsRecordOf, IsWithOrWithout, Fails, StoreView, SwitchView, pending_event, status_view, view_of, views_of, IsPendingStaged, StoreFitsNode, IsSwitch, CanCommitPending, CommitsPending, world_of, is_down_at, pending_events, with_store, IsRecoveryOutcome, IsEffectOfRecovery}
+use Rattle.switch.proofs.Words.{◌≡◌, ℕ, ◌+◌, ◌<◌, ◌≤◌, true, false, List, [], ◌∷◌, ◌++◌, length, get_or, set, slice_get, inl, inr, Option, Some, None, Result, Ok, Err, refl, ap, sym, ◌∙◌, subst, arith, length-append, AllByRecursion, option_map, ForOk, length-set, slice_get_read, Packet, Ask, Change, IsPost, to_others, KeptPart, changed_by, Node, StepResult, kept_of, Core, reloaded, restarted, Event, Restart, StepFault, Memory, Device, World, packets_after, History, world_of_taken, kept_part, StagedWork, steps, restarts, StagedEvent, NetView, HasSpareCapacity, IsStaged, IsReadyAt, IsOfEvent, IsEventAt, HasResult, IsTaken, posts_of, step_of, with_loaded, with_record, at_set, set_twice, comes_restart, set_same, Status, up, down, StoreState, pending_of, pending_change, pending_posts, IsRecordOf, IsWithOrWithout, Fails, StoreView, SwitchView, pending_event, status_view, view_of, views_of, IsPendingStaged, StoreFitsNode, IsSwitch, CanCommitPending, CommitsPending, world_of, is_down_at, is_unloaded_at, pending_events, with_store, IsRecoveryOutcome, IsEffectOfRecovery}
 use Rattle.switch.proofs.KeepLemmas.{either_twice}
 use Rattle.switch.proofs.StoresLemmas.{views_of-set, view_at, item_at, down_at, few_staged}
 use Rattle.switch.proofs.SwitchLemmas.{switch_view, core_node, own_number, own_weights, other_store, at, node_is, committed}
@@ -10,7 +10,7 @@ use Rattle.switch.proofs.OwedLemmas.{owed_change, can_take, owed_taken}
 -- The switch before, with stores and net as they are when the keep is called.
 module _ {V : Type 0} (size : V → ℕ) (net : NetView V) (stores : List (StoreState V)) (h : IsSwitch size net stores) (now : SwitchView V) (seen : switch_view net stores ≡ now)
     (d1 : StagedEvent V) (d : IsStaged size net d1) (j : ℕ) (is_e : d1.event ≡ Restart j) (kind : IsOfEvent (Restart j) d1.work) (k : ℕ) (is_at : k ≡ d1.at) (store : StoreState V) (is : store ≡ get_or stores k store) (low_k : k < length stores)
-    (test : is_down_at now.stores (Some j) ≡ true) (room : length net.history.events + 2 ≤ net.history.event_limit) where
+    (test : is_down_at now.stores (Some j) ≡ true) (loaded : is_unloaded_at now.stores j ≡ false) (room : length net.history.events + 2 ≤ net.history.event_limit) where
   abbrev w : World V
   w = h.world.world
 
@@ -40,6 +40,7 @@ module _ {V : Type 0} (size : V → ℕ) (net : NetView V) (stores : List (Store
   -- the store is down, and may owe an event
   is_down : (o : Option (StagedEvent V)) × (store.status ≡ down o)
   is_down = down_at stores k store found (ap (λ (i : ℕ). is_down_at (views_of stores) (Some i)) (sym is_j) ∙ ap (λ (s : SwitchView V). is_down_at s.stores (Some j)) seen ∙ test)
+      (ap (λ (i : ℕ). is_unloaded_at (views_of stores) i) (sym is_j) ∙ ap (λ (s : SwitchView V). is_unloaded_at s.stores j) seen ∙ loaded)
 
   abbrev o : Option (StagedEvent V)
   o = is_down.0
@@ -78,7 +79,7 @@ module _ {V : Type 0} (size : V → ℕ) (net : NetView V) (stores : List (Store
     record {
       kept = store.kept;
       either = inl refl;
-      rest = same ∙ ap (λ (ps : List (StoreView V)). let s : SwitchView V = record { weights = net.history.weights; event_limit = net.history.event_limit; history = net.history.events; stores = ps } in s)
+      rest = same ∙ ap (λ (ps : List (StoreView V)). let s : SwitchView V = record { weights = net.history.weights; event_limit = net.history.event_limit; begins = net.history.begins; history = net.history.events; stores = ps } in s)
           (sym (set_same (views_of stores) j (view_of store) (ap (λ (i : ℕ). slice_get (views_of stores) i) is_j ∙ view_at stores k store found)));
     },
   ))
@@ -107,7 +108,7 @@ module _ {V : Type 0} (size : V → ℕ) (net : NetView V) (stores : List (Store
       record {
         kept = new.kept;
         either = subst (λ (c : Option (Change V)). IsWithOrWithout store.kept c new.kept) (owed_change size net stores h k o pending_staged) either;
-        rest = ap (λ (ps : List (StoreView V)). let s : SwitchView V = record { weights = net.history.weights; event_limit = net.history.event_limit; history = net.history.events; stores = ps } in s) (views_of-set stores k new)
+        rest = ap (λ (ps : List (StoreView V)). let s : SwitchView V = record { weights = net.history.weights; event_limit = net.history.event_limit; begins = net.history.begins; history = net.history.events; stores = ps } in s) (views_of-set stores k new)
             ∙ ap (λ (s : StoreState V). with_store old k (view_of s)) fails.rest
             ∙ ap (λ (i : ℕ). with_store old i record { kept = new.kept; failures = store.failures + 1; status = status_view store.status }) (sym is_j);
       },
@@ -135,7 +136,7 @@ module _ {V : Type 0} (size : V → ℕ) (net : NetView V) (stores : List (Store
     takes_o = subst (λ (p : Option (StagedEvent V)). CommitsPending net m p) (is_owed ∙ owed_is) takes
 
     abbrev mid : (switch : IsSwitch size m (set stores k new)) × (m.history.weights ≡ net.history.weights) × (m.history.events ≡ net.history.events ++ pending_events (pending_event o)) × (m.packets ≡ net.packets ++ pending_posts o)
-        × (net.packet_capacity ≤ m.packet_capacity) × (net.event_capacity ≤ m.event_capacity) × (m.history.event_limit ≡ net.history.event_limit)
+        × (net.packet_capacity ≤ m.packet_capacity) × (net.event_capacity ≤ m.event_capacity) × (m.history.event_limit ≡ net.history.event_limit) × (m.history.begins ≡ net.history.begins)
     mid = owed_taken size net stores h k d.core.node store new node_k found new_up room m o pending_staged fits new_kept_is takes_o
 
     abbrev hm : IsSwitch size m (set stores k new)
@@ -248,18 +249,19 @@ module _ {V : Type 0} (size : V → ℕ) (net : NetView V) (stores : List (Store
             let limit : z.history.event_limit ≡ net.history.event_limit = ap (λ (y : History V). y.event_limit) t.history ∙ mid.6 in
             let history : z.history.events ≡ net.history.events ++ pending_events (pending_event o) ++ Restart j ∷ [] =
             ap (λ (y : History V). y.events) t.history ∙ ap (λ (es : List (Event V)). es ++ d1.event ∷ []) mid.2 ∙ ap (λ (f : Event V). net.history.events ++ pending_events (pending_event o) ++ f ∷ []) is_e in
+            let begins : z.history.begins ≡ net.history.begins = ap (λ (y : History V). y.begins) t.history ∙ mid.7 in
+            let whole : z.history ≡ (let y : History V = record { weights = net.history.weights; event_limit = net.history.event_limit; begins = net.history.begins; events = net.history.events ++ pending_events (pending_event o) ++ Restart j ∷ [] } in y) = cc in
             let low_z : k < length z.cores = (let c = recovered.count in let l = length-set stores k new in let low = low_k in omega (arith, c, l, low)) in
             let c = item_at z.cores k low_z in
             let node_z = core_node size z (set stores k new) recovered k c.0 c.1 in
             let fits_z : new.kept ≡ kept_of c.0.node = subst (λ (s : Status (StagedEvent V)). IsRecordOf c.0.node s new.kept) new_up (recovered.each k c.0.node new node_z new_at).fits in
             of_view (switch_view z (set stores k new)) (Ok count) record {
               world = x;
-              is_after = subst (λ (us : List ℕ). IsAfter size us net.history.event_limit (net.history.events ++ pending_events (pending_event o) ++ Restart j ∷ []) x) weights
-                  (subst (λ (l : ℕ). IsAfter size z.history.weights l (net.history.events ++ pending_events (pending_event o) ++ Restart j ∷ []) x) limit (subst (λ (es : List (Event V)). IsAfter size z.history.weights z.history.event_limit es x) history recovered.world.is_after));
+              is_after = subst (λ (y : History V). world_of_taken size y ≡ Ok x) whole recovered.world.is_after;
               counted = counted ∙ ap (λ (r : Result (World V) StepFault). length (packets_after r)) recovered.world.is_after;
               kept = new.kept;
               is_kept = ap (λ (i : ℕ). kept_part x i) is_j ∙ ap (λ (n : Option (Node V)). option_map kept_of n) node_z ∙ ap (λ (y : KeptPart V). let p : Option (KeptPart V) = Some y in p) (sym fits_z);
-              rest = view_is_same _ _ _ _ _ _ _ _ weights limit history
+              rest = view_is_same _ _ _ _ _ _ _ _ _ _ weights limit begins history
                   (views_of-set stores k new ∙ ap (λ (i : ℕ). set (views_of stores) i (view_of new)) (sym is_j)
                   ∙ ap (λ (i : ℕ). set (views_of stores) j (let p : StoreView V = record { kept = new.kept; failures = i; status = status_view new.status } in p)) (ap (λ (s : StoreState V). s.failures) repaired)
                   ∙ ap (λ (s : Status (StagedEvent V)). set (views_of stores) j (let p : StoreView V = record { kept = new.kept; failures = store.failures; status = status_view s } in p)) new_up);

@@ -1,5 +1,5 @@
 -- Stores and their views, as lists and one by one.
-use Rattle.switch.proofs.Words.{◌≡◌, ◌≢◌, ℕ, zero, suc, ◌<◌, ◌≤◌, ◌==◌, Bool, true, false, List, [], ◌∷◌, ◌++◌, length, get_or, set, slice_get, Option, Some, None, refl, ap, sym, ◌∙◌, subst, arith, le_of_suc-le-suc, AllByRecursion, nat_tests, KeptPart, new_kept, Node, Event, StagedEvent, at_set, at_set_other, Status, up, down, StoreState, StoreView, status_view, view_of, views_of, new_views, new_stores, is_down, is_down_view, is_down_at, pending_events}
+use Rattle.switch.proofs.Words.{◌≡◌, ◌≢◌, ℕ, zero, suc, ◌<◌, ◌≤◌, ◌==◌, Bool, true, false, List, [], ◌∷◌, ◌++◌, length, get_or, set, slice_get, Option, Some, None, refl, ap, sym, ◌∙◌, subst, arith, le_of_suc-le-suc, AllByRecursion, nat_tests, KeptPart, new_kept, Node, Event, StagedEvent, at_set, at_set_other, Status, up, down, unloaded, StoreState, StoreView, status_view, view_of, views_of, new_views, new_stores, is_down, is_down_view, is_down_at, is_unloaded, is_unloaded_view, is_unloaded_at, pending_events}
 
 pub views_of-set : {V : Type 0} (stores : List (StoreState V)) (k : ℕ) (store : StoreState V) → views_of (set stores k store) ≡ set (views_of stores) k (view_of store)
 views_of-set [] k store = refl
@@ -58,17 +58,48 @@ each_after {V} nodes stores P k store new is own others j m s at is_s = by_test 
 up_of : {V : Type 0} (s : Status (StagedEvent V)) → is_down (status_view s) ≡ false → s ≡ up
 up_of up e = refl
 up_of (down o) e = cc
+up_of unloaded e = cc
 
 -- a store whose view is not down is up
 pub up_at : {V : Type 0} (stores : List (StoreState V)) (k : ℕ) (store : StoreState V) → slice_get stores k ≡ Some store → is_down_at (views_of stores) (Some k) ≡ false → store.status ≡ up
 up_at stores k store is e = up_of store.status (sym (ap (λ o. is_down_view o) (view_at stores k store is)) ∙ e)
 
--- a store whose view is down is down, and may owe an event
-pub down_at : {V : Type 0} (stores : List (StoreState V)) (k : ℕ) (store : StoreState V) → slice_get stores k ≡ Some store → is_down_at (views_of stores) (Some k) ≡ true → (o : Option (StagedEvent V)) × (store.status ≡ down o)
-down_at stores k store is e = down_owing store.status (sym (ap (λ o. is_down_view o) (view_at stores k store is)) ∙ e) where
-  down_owing : {V : Type 0} (s : Status (StagedEvent V)) → is_down (status_view s) ≡ true → (o : Option (StagedEvent V)) × (s ≡ down o)
-  down_owing up d = cc
-  down_owing (down o) d = (o, refl)
+-- a store whose view is down, and that is not unloaded, is down, and may owe an event
+pub down_at : {V : Type 0} (stores : List (StoreState V)) (k : ℕ) (store : StoreState V) → slice_get stores k ≡ Some store → is_down_at (views_of stores) (Some k) ≡ true → is_unloaded_at (views_of stores) k ≡ false → (o : Option (StagedEvent V)) × (store.status ≡ down o)
+down_at stores k store is e l = down_owing store.status (sym (ap (λ o. is_down_view o) (view_at stores k store is)) ∙ e) (sym (ap (λ o. is_unloaded_view o) (view_at stores k store is)) ∙ l) where
+  down_owing : {V : Type 0} (s : Status (StagedEvent V)) → is_down (status_view s) ≡ true → is_unloaded (status_view s) ≡ false → (o : Option (StagedEvent V)) × (s ≡ down o)
+  down_owing up d l = cc
+  down_owing (down o) d l = (o, refl)
+  down_owing unloaded d l = cc
+
+-- a node that is unloaded is down
+pub unloaded_is_down : {V : Type 0} (views : List (StoreView V)) (k : ℕ) → is_unloaded_at views k ≡ true → is_down_at views (Some k) ≡ true
+unloaded_is_down views k is = of (slice_get views k) is where
+  by_status : {V : Type 0} (s : Status (Event V)) → is_unloaded s ≡ true → is_down s ≡ true
+  by_status up t = cc
+  by_status (down e) t = refl
+  by_status unloaded t = refl
+
+  of : {V : Type 0} (o : Option (StoreView V)) → is_unloaded_view o ≡ true → is_down_view o ≡ true
+  of None t = cc
+  of (Some view) t = by_status view.status t
+
+-- a status that is shown as up, or as unloaded, is so
+pub status_up : {V : Type 0} (s : Status (StagedEvent V)) → status_view s ≡ up → s ≡ up
+status_up up e = refl
+status_up (down o) e = cc
+status_up unloaded e = cc
+
+pub status_unloaded : {V : Type 0} (s : Status (StagedEvent V)) → status_view s ≡ unloaded → s ≡ unloaded
+status_unloaded up e = cc
+status_unloaded (down o) e = cc
+status_unloaded unloaded e = refl
+
+-- a status that is not up is seen as down
+pub down_unless_up : {V : Type 0} (s : Status (StagedEvent V)) → s ≢ up → is_down (status_view s) ≡ true
+down_unless_up up not = absurd (not refl)
+down_unless_up (down o) not = refl
+down_unless_up unloaded not = refl
 
 -- New stores.
 

@@ -1,9 +1,9 @@
 -- A switch after its net or one of its stores has changed.
-use Rattle.switch.proofs.Words.{◌≡◌, ◌≢◌, ℕ, zero, suc, ◌<◌, List, [], ◌∷◌, ◌++◌, length, set, slice_get, Option, Some, None, Ok, refl, ap, sym, ◌∙◌, subst, arith, append_assoc, AllByRecursion, option_map, length-set, Packet, Change, IsPost, KeptPart, changed_by, new_kept, Node, StepResult, kept_of, new_node, Core, Event, World, start, nodes_from, after_step, event_result, event_result_without_limit, after, offers_of, IsAfter, History, nodes_of, AreOfWorld, change_of, kept_part, StagedWork, steps, restarts, StagedEvent, change_in, posts_of, step_of, IsEventAt, NetView, EachChangesOnlyCapacity, ChangesOnlyCapacity, IsStaged, IsTaken, at_set, at_set_other, if_taken, node_at, holds_after, world_lasts, Happens, event_moves, taken_count, event_result-not_spent, rooms_stay, same_limit, makes, nodes_of-set, nodes_found, nodes_still, staged_still, posts_same, Status, up, down, StoreState, IsRecordOf, SwitchView, views_of, new_stores, IsPendingStaged, StoreFitsNode, IsSwitch, all_append, append-nil, with_event}
+use Rattle.switch.proofs.Words.{◌≡◌, ◌≢◌, ℕ, zero, suc, ◌<◌, List, [], ◌∷◌, ◌++◌, length, set, slice_get, Option, Some, None, Ok, refl, ap, sym, ◌∙◌, subst, arith, append_assoc, AllByRecursion, option_map, length-set, Packet, Change, IsPost, KeptPart, changed_by, new_kept, Node, StepResult, kept_of, restarted_node, Core, Event, World, start, new_parts, nodes_with, first_world, after_step, event_result, event_result_without_limit, History, new_history, world_of_taken, IsIdle, idle_push, IsOwn, own_after, nodes_of, AreOfWorld, change_of, kept_part, StagedWork, steps, restarts, StagedEvent, change_in, posts_of, step_of, IsEventAt, NetView, EachChangesOnlyCapacity, ChangesOnlyCapacity, IsStaged, IsTaken, at_set, at_set_other, if_taken, Happens, event_moves, taken_count, event_result-not_spent, rooms_stay, same_limit, makes, nodes_of-set, nodes_found, nodes_still, staged_still, posts_same, Status, up, down, unloaded, StoreState, IsRecordOf, SwitchView, views_of, new_stores, IsPendingStaged, StoreFitsNode, IsSwitch, all_append, append-nil, with_event}
 use Rattle.switch.proofs.StoresLemmas.{each_after, new_at, count_stores}
 
 abbrev pub switch_view : {V : Type 0} → NetView V → List (StoreState V) → SwitchView V
-switch_view net stores = record { weights = net.history.weights; event_limit = net.history.event_limit; history = net.history.events; stores = views_of stores }
+switch_view net stores = record { weights = net.history.weights; event_limit = net.history.event_limit; begins = net.history.begins; history = net.history.events; stores = views_of stores }
 
 -- if only rooms change, the net is of the same world
 still_world : {V : Type 0} (size : V → ℕ) (a b : NetView V) → ChangesOnlyCapacity a b → AreOfWorld size a.history a.cores a.packets → AreOfWorld size b.history b.cores b.packets
@@ -19,20 +19,20 @@ still_count [] (d ∷ ds) h = elim h [ ]
 still_count (c ∷ cs) [] h = elim h [ ]
 
 -- each node of a world before any event has the kept part of a new node
-new_node_at : {V : Type 0} (weights : List ℕ) (j k : ℕ) (ws : List ℕ) (n : Node V) → slice_get (nodes_from weights j ws) k ≡ Some n → kept_of n ≡ new_kept
+new_node_at : {V : Type 0} (weights : List ℕ) (j k : ℕ) (ws : List ℕ) (n : Node V) → slice_get (nodes_with weights j (new_parts ws)) k ≡ Some n → kept_of n ≡ new_kept
 new_node_at weights j k [] n at = cc
-new_node_at {V} weights j zero (w ∷ ws) n at = let same : new_node j weights ≡ n = cc in ap (λ (m : Node V). kept_of m) (sym same)
+new_node_at {V} weights j zero (w ∷ ws) n at = let same : restarted_node j weights new_kept ≡ n = cc in ap (λ (m : Node V). kept_of m) (sym same)
 new_node_at weights j (suc k) (w ∷ ws) n at = new_node_at weights (suc j) k ws n at
 
 -- a net of new nodes and their new stores are a switch
 pub starts : {V K : Type 0} (size : V → ℕ) (kept : K → KeptPart V) (failures : K → ℕ) (net : NetView V) (weights : List ℕ) (limit : ℕ) (keeps : List K) (stores : List (StoreState V)) → AreOfWorld size net.history net.cores net.packets
-    → net.history ≡ record { weights = weights; event_limit = limit; events = [] } → length net.cores ≡ length net.history.weights → length keeps ≡ length weights → AllByRecursion (λ keep. kept keep ≡ new_kept) keeps → stores ≡ new_stores kept failures keeps → IsSwitch size net stores
+    → net.history ≡ new_history weights limit [] → length net.cores ≡ length net.history.weights → length keeps ≡ length weights → AllByRecursion (λ keep. kept keep ≡ new_kept) keeps → stores ≡ new_stores kept failures keeps → IsSwitch size net stores
 starts {V} size kept failures net weights limit keeps stores h is cores count new are = subst (λ (us : List (StoreState V)). IsSwitch size net us) (sym are) record {
   world = h;
   count = count_stores kept failures keeps ∙ count ∙ sym (cores ∙ ap (λ (t : History V). length t.weights) is);
   each = λ k n store at is_store.
       (let s = new_at kept failures keeps new k store is_store in
-      let begun : Ok (start weights limit) ≡ Ok h.world = sym (ap (λ (t : History V). after size t.weights t.event_limit t.events) is) ∙ h.is_after in
+      let begun : Ok (start weights limit) ≡ Ok h.world = sym (ap (λ (t : History V). world_of_taken size t) is) ∙ h.is_after in
       let same : start weights limit ≡ h.world = cc in
       let fits : kept_of n ≡ new_kept = new_node_at weights 0 k weights n (ap (λ (w : World V). slice_get w.nodes k) same ∙ at) in
       subst (λ (x : StoreState V). StoreFitsNode size net k n x) refl (store_is s.0 s.1 fits));
@@ -49,7 +49,7 @@ module _ {V : Type 0} (size : V → ℕ) (net : NetView V) (stores : List (Store
 
   -- the world counts the events of the history
   pub taken_is : w.event_count ≡ length net.history.events
-  taken_is = taken_count size net.history.weights net.history.event_limit net.history.events w h.world.is_after
+  taken_is = taken_count size net.history w h.world.is_after
 
   -- below the limit of events, the test of the limit leaves the result of an event as it is
   pub has_room : (e : Event V) → length net.history.events < net.history.event_limit → event_result size w e ≡ event_result_without_limit size w e
@@ -60,21 +60,18 @@ module _ {V : Type 0} (size : V → ℕ) (net : NetView V) (stores : List (Store
   core_node k c at = ap (λ (ns : List (Node V)). slice_get ns k) h.world.nodes ∙ nodes_found net.cores k c at
 
   -- there is one world after the history
-  pub same_world : (x : World V) → IsAfter size net.history.weights net.history.event_limit net.history.events x → w ≡ x
+  pub same_world : (x : World V) → world_of_taken size net.history ≡ Ok x → w ≡ x
   same_world x is = let both : Ok w ≡ Ok x = sym h.world.is_after ∙ is in cc
 
   -- each node has the weights of the history
   pub own_weights : (k : ℕ) (n : Node V) → slice_get w.nodes k ≡ Some n → n.weights ≡ net.history.weights
   own_weights k n at =
-      let holds = holds_after size net.history.weights net.history.event_limit net.history.events w h.world.is_after in
-      (node_at w.weights (offers_of net.history.events) holds.ledger w.nodes 0 k n at holds.nodes).weights
-      ∙ (world_lasts size net.history.weights net.history.event_limit [] net.history.events (start net.history.weights net.history.event_limit) w refl h.world.is_after).weights
+      let own : IsOwn net.history.weights k n = (own_after size net.history.weights net.history.event_limit net.history.begins net.history.events w h.world.is_after).each k n at in own.weights
 
   -- the node at index k has the number k
   pub own_number : (k : ℕ) (n : Node V) → slice_get w.nodes k ≡ Some n → n.me ≡ k
   own_number k n at =
-      let holds = holds_after size net.history.weights net.history.event_limit net.history.events w h.world.is_after in
-      (node_at w.weights (offers_of net.history.events) holds.ledger w.nodes 0 k n at holds.nodes).me ∙ omega arith
+      let own : IsOwn net.history.weights k n = (own_after size net.history.weights net.history.event_limit net.history.begins net.history.events w h.world.is_after).each k n at in own.me
 
   -- Only rooms change.
 
@@ -83,12 +80,13 @@ module _ {V : Type 0} (size : V → ℕ) (net : NetView V) (stores : List (Store
   still_owing b only_capacity k up o = tt
   still_owing b only_capacity k (down None) o = tt
   still_owing b only_capacity k (down (Some staged)) o = (o.0, staged_still size net b staged only_capacity o.1)
+  still_owing b only_capacity k unloaded o = subst (λ (t : History V). IsIdle size t k) (sym only_capacity.history) o
 
   -- the net and the stores are still a switch
   pub still_switch : (b : NetView V) → ChangesOnlyCapacity net b → IsSwitch size b stores
   still_switch b only_capacity =
       let there = still_world size net b only_capacity h.world in
-      let same : w ≡ there.world = same_world there.world (ap (λ (t : History V). after size t.weights t.event_limit t.events) (sym only_capacity.history) ∙ there.is_after) in
+      let same : w ≡ there.world = same_world there.world (ap (λ (t : History V). world_of_taken size t) (sym only_capacity.history) ∙ there.is_after) in
       record {
         world = there;
         count = h.count ∙ sym (still_count net.cores b.cores only_capacity.cores);
@@ -195,6 +193,10 @@ module _ {V : Type 0} (size : V → ℕ) (net : NetView V) (stores : List (Store
         other_owing j apart up o = tt
         other_owing j apart (down None) o = tt
         other_owing j apart (down (Some other)) o = (o.0, other_staged other (λ e. apart (e ∙ o.0)) o.1)
+        other_owing j apart unloaded o =
+            subst (λ (x : History V). IsIdle size x j) (sym t.history)
+            (idle_push size j net.history.events (Ok (first_world net.history)) w staged.event h.world.is_after o
+            (λ is. (let both : Some staged.at ≡ Some j = sym at.node ∙ is in let same : staged.at ≡ j = cc in apart same)))
 
         -- if the node is up and its keep has made the change, the net and the stores are a switch
         pub committed : (store new : StoreState V) → slice_get stores staged.at ≡ Some store → new.kept ≡ kept_of step.node → new.status ≡ up → IsSwitch size b (set stores staged.at new)

@@ -1,5 +1,5 @@
 -- A call as a whole: its answer in the world after the history, and the logs after it.
-use Rattle.switch.proofs.Words.{◌≡◌, ℕ, true, false, List, Option, Some, None, Result, Ok, Err, refl, ap, sym, ◌∙◌, subst, slice_get, IsErrAnd, ForOk, Event, StepFault, Memory, World, node_of_event, node_of, StagedEvent, NetView, Status, up, down, StoreState, StoreView, SwitchView, status_view, view_of, views_of, IsPendingStaged, IsSwitch, is_down_at, world_of, IsEffectUnlessDown, IsEffectAtDownNode, IsEffectOfRecovery, IsEffect, Plays, EventKeepsPrefixes}
+use Rattle.switch.proofs.Words.{◌≡◌, ℕ, true, false, List, Option, Some, None, Result, Ok, Err, refl, ap, sym, ◌∙◌, subst, slice_get, IsErrAnd, ForOk, Event, Restart, StepFault, Memory, World, node_of_event, node_of, StagedEvent, NetView, Status, up, down, unloaded, StoreState, StoreView, SwitchView, status_view, view_of, views_of, IsPendingStaged, IsSwitch, IsReloadOutcome, is_down_at, is_unloaded_at, world_of, IsEffectUnlessDown, IsEffectAtDownNode, IsEffectOfRecovery, IsEffect, Plays, EventKeepsPrefixes}
 use Rattle.switch.proofs.StoresLemmas.{view_at, view_past}
 use Rattle.switch.proofs.SwitchLemmas.{switch_view, at}
 use Rattle.switch.proofs.CallLemmas.{stores_are, after_is, node_there, node_seen}
@@ -32,6 +32,7 @@ module _ {V : Type 0} (size : V → ℕ) (net : NetView V) (stores : List (Store
   owed_own : (k : ℕ) (s : Status (StagedEvent V)) → IsPendingStaged size net k s → (e : Event V) → status_view s ≡ down (Some e) → node_of h.world.world e ≡ Some k
   owed_own k up pending_staged e is = cc
   owed_own k (down None) pending_staged e is = cc
+  owed_own k unloaded pending_staged e is = cc
   owed_own k (down (Some o)) pending_staged e is =
       let both : down (Some o.event) ≡ down (Some e) = is in
       let same : o.event ≡ e = cc in
@@ -63,8 +64,9 @@ module _ {V : Type 0} (size : V → ℕ) (net : NetView V) (stores : List (Store
     found_at = node_seen size net stores h now seen e o node
 
     -- if the node is down, the call plays the event and keeps the logs
-    pub plays_down : is_down_at now.stores o ≡ true → (new : SwitchView V) (result : Result ℕ StepFault) → ForOk (world_of size now) (λ x. IsEffectAtDownNode size x now new e result) → Plays size now new e result × EventKeepsPrefixes size e now new result
-    plays_down test new result effect = call_plays e new result (down_acts size now e o found_at new result test effect)
+    pub plays_down : is_down_at now.stores o ≡ true → (new : SwitchView V) (result : Result ℕ StepFault) → ((k : ℕ) → e ≡ Restart k → is_unloaded_at now.stores k ≡ true → IsReloadOutcome size now new k result)
+        → ForOk (world_of size now) (λ x. IsEffectAtDownNode size x now new e result) → Plays size now new e result × EventKeepsPrefixes size e now new result
+    plays_down test new result stays effect = call_plays e new result (down_acts size now e o found_at new result test stays effect)
 
     -- if the node is up or does not exist, the call plays the event and keeps the logs
     pub plays_up : is_down_at now.stores o ≡ false → (new : SwitchView V) (result : Result ℕ StepFault) → ForOk (world_of size now) (λ x. IsEffectUnlessDown size x now new e result) → Plays size now new e result × EventKeepsPrefixes size e now new result

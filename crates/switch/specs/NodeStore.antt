@@ -8,16 +8,19 @@
 use Rattle.std.specs.Prelude.{◌≡◌, ◌⊎◌, ◌+◌, ℕ, List, [], Option, Some, None}
 use Rattle.switch.specs.Words.{Packet, Change, KeptPart, changed_by, Node, kept_of, StagedEvent, change_in, posts_of}
 use Rattle.switch.specs.declared.node_store.Status.{Status as RustStatus}
-use Rattle.switch.specs.declared.node_store.Status.TheVariants.{Up, Down}
+use Rattle.switch.specs.declared.node_store.Status.TheVariants.{Up, Down, Unloaded}
 
--- the view of the status: up; or down, with the pending event, if there is one
+-- the view of the status: up; down, with the pending event, if there is one; or unloaded, that is
+-- down since the record could not be loaded at the start
 pub data Status (A : Type 0) : Type 0 where
   up : Status A
   down : Option A → Status A
+  unloaded : Status A
 
 abbrev pub status_of : {V : Type 0} → RustStatus V → Status (StagedEvent V)
 status_of Up = up
 status_of (Down pending) = down pending
+status_of Unloaded = unloaded
 
 -- the view of a `NodeStore`, with the pending event as it was staged; `StoreView` of `Switch` has
 -- the event alone
@@ -31,6 +34,7 @@ pub record StoreState (V : Type 0) : Type 0 where
 abbrev pub pending_of : {V : Type 0} → Status (StagedEvent V) → Option (StagedEvent V)
 pending_of up = None
 pending_of (down pending) = pending
+pending_of unloaded = None
 
 abbrev pub pending_change : {V : Type 0} → Option (StagedEvent V) → Option (Change V)
 pending_change None = None
@@ -49,7 +53,8 @@ abbrev pub with_pending_change : {V : Type 0} → StoreState V → StoreState V
 with_pending_change store = with_change store (pending_change (pending_of store.status))
 
 -- The record of the keep is the kept part of the node; while the node is down, the record may
--- instead be that kept part with the change of the pending event made.
+-- instead be that kept part with the change of the pending event made. Of a node that is unloaded
+-- it may be any.
 
 -- the old record, or the old record with the change
 abbrev pub IsWithOrWithout : {V : Type 0} → KeptPart V → Option (Change V) → KeptPart V → Type 0
@@ -58,6 +63,7 @@ IsWithOrWithout old change new = (new ≡ old) ⊎ (new ≡ changed_by old chang
 abbrev pub IsRecordOf : {V : Type 0} → Node V → Status (StagedEvent V) → KeptPart V → Type 0
 IsRecordOf n up kept = kept ≡ kept_of n
 IsRecordOf n (down pending) kept = IsWithOrWithout (kept_of n) (pending_change pending) kept
+IsRecordOf n unloaded kept = Unit {0}
 
 -- the effect of a failed call of the keep
 pub record Fails {V : Type 0} (old : StoreState V) (change : Option (Change V)) (status_after : Status (StagedEvent V)) (new : StoreState V) : Type 0 where

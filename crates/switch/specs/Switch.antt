@@ -6,8 +6,8 @@
 -- the world after the history.
 use Rattle.std.specs.Prelude.{◌≡◌, ◌⊎◌, ◌+◌, ◌≤◌, ◌<◌, ℕ, Bool, true, false, List, [], ◌∷◌, ◌++◌, Option, Some, None, Result, Ok, Err, MatchResult, length, slice_get, slice_set}
 use Rattle.std.specs.Borrow.{Bor}
-use Rattle.switch.specs.Words.{Packet, Change, KeptPart, changed_by, new_kept, Node, kept_of, Event, Offer, Begin, Deliver, Restart, StepFault, Memory, Device, Down, EventsSpent, NoPacket, World, event_result, after, IsAfter, AreOfWorld, node_of, change_of, kept_part, StagedEvent, NetView, IsStaged, HasSpareCapacity, IsTaken, posts_of}
-use Rattle.switch.specs.NodeStore.{Status, up, down, StoreState, IsRecordOf, IsWithOrWithout}
+use Rattle.switch.specs.Words.{Packet, Change, KeptPart, changed_by, new_kept, Node, kept_of, Event, Offer, Begin, Deliver, Restart, StepFault, Memory, Device, Down, EventsSpent, NoPacket, World, event_result, events_result, log_after, AreOfWorld, History, first_world, world_of_taken, IsIdle, node_of, change_of, kept_part, StagedEvent, NetView, IsStaged, HasSpareCapacity, IsTaken, posts_of}
+use Rattle.switch.specs.NodeStore.{Status, up, down, unloaded, StoreState, IsRecordOf, IsWithOrWithout}
 
 -- The switch as contracts see it.
 
@@ -21,6 +21,7 @@ pub record StoreView (V : Type 0) : Type 0 where
 pub record SwitchView (V : Type 0) : Type 0 where
   pub weights : List ℕ
   pub event_limit : ℕ  -- the number of events that the switch takes
+  pub begins : List (KeptPart V)  -- what the nodes began with
   pub history : List (Event V)
   pub stores : List (StoreView V)
 
@@ -31,6 +32,7 @@ pending_event (Some staged) = Some staged.event
 abbrev pub status_view : {V : Type 0} → Status (StagedEvent V) → Status (Event V)
 status_view up = up
 status_view (down pending) = down (pending_event pending)
+status_view unloaded = unloaded
 
 abbrev pub view_of : {V : Type 0} → StoreState V → StoreView V
 view_of store = record { kept = store.kept; failures = store.failures; status = status_view store.status }
@@ -50,13 +52,40 @@ abbrev pub new_stores : {V K : Type 0} → (K → KeptPart V) → (K → ℕ) �
 new_stores kept failures [] = []
 new_stores kept failures (keep ∷ keeps) = record { kept = kept keep; failures = failures keep; status = up } ∷ new_stores kept failures keeps
 
+-- The switch of nodes that begin with the records of keeps.
+
+-- a node that begins with the record of its keep and is up; or one whose record could not be loaded,
+-- which begins as a new one and is unloaded
+abbrev pub IsResumedStore : {V : Type 0} → KeptPart V → ℕ → KeptPart V → StoreView V → Type 0
+IsResumedStore kept failures begun view =
+    ((begun ≡ kept) × (view ≡ record { kept = kept; failures = failures; status = up }))
+    ⊎ ((begun ≡ new_kept) × (view ≡ record { kept = kept; failures = failures + 1; status = unloaded }))
+
+-- each keep has such a node, given by what it begins with and by its store; `kept` gives the record
+-- of a keep, and `failures` the count of its failed calls
+abbrev pub AreResumedStores : {V K : Type 0} → (K → KeptPart V) → (K → ℕ) → List K → List (KeptPart V) → List (StoreView V) → Type 0
+AreResumedStores kept failures [] [] [] = Unit {0}
+AreResumedStores kept failures (keep ∷ keeps) (begun ∷ begins) (view ∷ views) = IsResumedStore (kept keep) (failures keep) begun view × AreResumedStores kept failures keeps begins views
+AreResumedStores kept failures [] (begun ∷ begins) views = ⊥
+AreResumedStores kept failures [] [] (view ∷ views) = ⊥
+AreResumedStores kept failures (keep ∷ keeps) [] views = ⊥
+AreResumedStores kept failures (keep ∷ keeps) (begun ∷ begins) [] = ⊥
+
+-- before any event, the switch of nodes that begin with the records of these keeps
+pub record IsResumed {V K : Type 0} (kept : K → KeptPart V) (failures : K → ℕ) (weights : List ℕ) (limit : ℕ) (keeps : List K) (switch : SwitchView V) : Type 0 where
+  pub weights_are : switch.weights ≡ weights
+  pub limit_is : switch.event_limit ≡ limit
+  pub no_events : switch.history ≡ []
+  pub stores : AreResumedStores kept failures keeps switch.begins switch.stores
+
 -- The invariant of the type.
 
--- the pending event, if there is one, is staged at the node
+-- the pending event, if there is one, is staged at the node; nothing happens at an unloaded one
 abbrev pub IsPendingStaged : {V : Type 0} → (V → ℕ) → NetView V → ℕ → Status (StagedEvent V) → Type 0
 IsPendingStaged size net k up = Unit {0}
 IsPendingStaged size net k (down None) = Unit {0}
 IsPendingStaged size net k (down (Some staged)) = (staged.at ≡ k) × IsStaged size net staged
+IsPendingStaged size net k unloaded = IsIdle size net.history k
 
 -- the record of the keep and the pending event fit the node
 pub record StoreFitsNode {V : Type 0} (size : V → ℕ) (net : NetView V) (k : ℕ) (n : Node V) (store : StoreState V) : Type 0 where
@@ -71,9 +100,17 @@ pub record IsSwitch {V : Type 0} (size : V → ℕ) (net : NetView V) (stores : 
 
 -- The facts that the contracts of the calls state.
 
+-- the history of a switch as that of a net
+abbrev pub history_of : {V : Type 0} → SwitchView V → History V
+history_of switch = record { weights = switch.weights; event_limit = switch.event_limit; begins = switch.begins; events = switch.history }
+
 -- the world after the history
 abbrev pub world_of : {V : Type 0} → (V → ℕ) → SwitchView V → Result (World V) StepFault
-world_of size switch = after size switch.weights switch.event_limit switch.history
+world_of size switch = world_of_taken size (history_of switch)
+
+-- the events are taken by nodes that began as those of the switch, and w is the world after them
+abbrev pub IsAfter : {V : Type 0} → (V → ℕ) → SwitchView V → List (Event V) → World V → Type 0
+IsAfter size switch events w = events_result size events (Ok (first_world (history_of switch))) ≡ Ok w
 
 -- the result is the packet with this number, counted from 0 in the order of posting, or NoPacket if
 -- there is none
@@ -86,10 +123,12 @@ change_of_pending size w None = None
 change_of_pending size w (Some e) = change_of size w e
 
 -- the record of the keep is the kept part of its node; while the node is down, the record may
--- instead be that kept part with the change of the pending event made
+-- instead be that kept part with the change of the pending event made; of an unloaded node it may be
+-- any
 abbrev pub IsRecordIn : {V : Type 0} → (V → ℕ) → World V → Node V → Status (Event V) → KeptPart V → Type 0
 IsRecordIn size w n up kept = kept ≡ kept_of n
 IsRecordIn size w n (down e) kept = IsWithOrWithout (kept_of n) (change_of_pending size w e) kept
+IsRecordIn size w n unloaded kept = Unit {0}
 
 -- there is a view of a store exactly if there is a node, and its record fits the node
 abbrev pub ViewFitsNode : {V : Type 0} → (V → ℕ) → World V → Option (Node V) → Option (StoreView V) → Type 0
@@ -102,11 +141,16 @@ ViewFitsNode size w (Some n) None = ⊥
 abbrev pub AreStores : {V : Type 0} → (V → ℕ) → World V → List (StoreView V) → Type 0
 AreStores size w stores = (k : ℕ) → ViewFitsNode size w (slice_get w.nodes k) (slice_get stores k)
 
+-- nothing happened at a node that is unloaded
+abbrev pub UnloadedAreIdle : {V : Type 0} → (V → ℕ) → SwitchView V → Type 0
+UnloadedAreIdle {V} size switch = (k : ℕ) (view : StoreView V) → slice_get switch.stores k ≡ Some view → view.status ≡ unloaded → IsIdle size (history_of switch) k
+
 -- Events.
 
 abbrev pub is_down : {V : Type 0} → Status (Event V) → Bool
 is_down up = false
 is_down (down e) = true
+is_down unloaded = true
 
 abbrev pub is_down_view : {V : Type 0} → Option (StoreView V) → Bool
 is_down_view None = false
@@ -117,12 +161,25 @@ abbrev pub is_down_at : {V : Type 0} → List (StoreView V) → Option ℕ → B
 is_down_at views None = false
 is_down_at views (Some k) = is_down_view (slice_get views k)
 
+abbrev pub is_unloaded : {V : Type 0} → Status (Event V) → Bool
+is_unloaded up = false
+is_unloaded (down e) = false
+is_unloaded unloaded = true
+
+abbrev pub is_unloaded_view : {V : Type 0} → Option (StoreView V) → Bool
+is_unloaded_view None = false
+is_unloaded_view (Some view) = is_unloaded view.status
+
+-- node k is unloaded
+abbrev pub is_unloaded_at : {V : Type 0} → List (StoreView V) → ℕ → Bool
+is_unloaded_at views k = is_unloaded_view (slice_get views k)
+
 -- the fault is returned, and everything is as before
 abbrev pub Refuses : {V : Type 0} → SwitchView V → SwitchView V → Result ℕ StepFault → StepFault → Type 0
 Refuses old new result fault = (result ≡ Err fault) × (new ≡ old)
 
 abbrev pub with_store : {V : Type 0} → SwitchView V → ℕ → StoreView V → SwitchView V
-with_store old k view = record { weights = old.weights; event_limit = old.event_limit; history = old.history; stores = slice_set old.stores k view }
+with_store old k view = record { weights = old.weights; event_limit = old.event_limit; begins = old.begins; history = old.history; stores = slice_set old.stores k view }
 
 -- the keep has made the change, and the event is taken
 abbrev pub with_event : {V : Type 0} → SwitchView V → ℕ → StoreView V → Option (Change V) → Event V → SwitchView V
@@ -171,13 +228,14 @@ recovered_history old e k = old.history ++ pending_events e ++ Restart k ∷ []
 -- then the restart are taken
 pub record IsRecovered {V : Type 0} (size : V → ℕ) (old new : SwitchView V) (k : ℕ) (view : StoreView V) (e : Option (Event V)) (count : ℕ) : Type 0 where
   pub world : World V
-  pub is_after : IsAfter size old.weights old.event_limit (recovered_history old e k) world
+  pub is_after : IsAfter size old (recovered_history old e k) world
   pub counted : count ≡ length world.packets
   pub kept : KeptPart V
   pub is_kept : kept_part world k ≡ Some kept
   pub rest : new ≡ record {
     weights = old.weights;
     event_limit = old.event_limit;
+    begins = old.begins;
     history = recovered_history old e k;
     stores = slice_set old.stores k record { kept = kept; failures = view.failures; status = up };
   }
@@ -199,6 +257,38 @@ pub record IsEffectOfRecovery {V : Type 0} (size : V → ℕ) (w : World V) (old
   pub spent : old.event_limit < length old.history + 2 → Refuses old new result EventsSpent
   pub recovered : length old.history + 2 ≤ old.event_limit → IsRecoveryOutcome size w old new k view e result
 
+-- Restarts of a node that is unloaded.
+
+-- node k is up with the record that its keep loaded now, with which it begins; nothing else changes
+pub record IsLoadedAgain {V : Type 0} (size : V → ℕ) (old new : SwitchView V) (k : ℕ) : Type 0 where
+  pub view : StoreView V
+  pub at : slice_get old.stores k ≡ Some view
+  pub rest : new ≡ record {
+    weights = old.weights;
+    event_limit = old.event_limit;
+    begins = slice_set old.begins k view.kept;
+    history = old.history;
+    stores = slice_set old.stores k record { kept = view.kept; failures = view.failures; status = up };
+  }
+  -- nodes that began so take the history too, each has its store, and the logs are as before
+  pub world : World V
+  pub is_after : world_of size new ≡ Ok world
+  pub stores : AreStores size world new.stores
+  pub logs : (j : ℕ) → log_after (world_of size new) j ≡ log_after (world_of size old) j
+
+-- the record of node k could not be loaded again
+pub record StaysUnloaded {V : Type 0} (old new : SwitchView V) (k : ℕ) : Type 0 where
+  pub view : StoreView V
+  pub at : slice_get old.stores k ≡ Some view
+  pub fails : FailsAt old new k view None unloaded
+
+-- the record could not be loaded again; or it was, and the node restarts as one that is up
+abbrev pub IsReloadOutcome : {V : Type 0} → (V → ℕ) → SwitchView V → SwitchView V → ℕ → Result ℕ StepFault → Type 0
+IsReloadOutcome {V} size old new k result =
+    ((result ≡ Err Device) × StaysUnloaded old new k)
+    ⊎ ((between : SwitchView V) × IsLoadedAgain size old between k
+    × ((w : World V) → world_of size between ≡ Ok w → IsEffectUnlessDown size w between new (Restart k) result))
+
 -- Events in general.
 
 -- the effect of an event whose node is down: a restart may bring it up again, and every other event
@@ -213,6 +303,7 @@ IsEffectAtDownNode {V} size w old new (Restart k) result = (view : StoreView V) 
 -- the effect of an event; w is the world after the old history
 pub record IsEffect {V : Type 0} (size : V → ℕ) (w : World V) (old new : SwitchView V) (e : Event V) (result : Result ℕ StepFault) : Type 0 where
   pub is_down : is_down_at old.stores (node_of w e) ≡ true → IsEffectAtDownNode size w old new e result
+  pub is_unloaded : (k : ℕ) → e ≡ Restart k → is_unloaded_at old.stores k ≡ true → IsReloadOutcome size old new k result
   pub is_up : is_down_at old.stores (node_of w e) ≡ false → IsEffectUnlessDown size w old new e result
 
 -- no event of the old history meets a fault; each node of the world after it has its store; and

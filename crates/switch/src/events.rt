@@ -3,7 +3,7 @@
 ghost use Rattle.std.specs.Prelude.{◌≡◌, Some, false};
 ghost use Rattle.std.specs.Result.{ForOk};
 ghost use Rattle.net.specs.KeptPart.{node_of};
-ghost use Rattle.switch.specs.Switch.{IsEffectUnlessDown, Plays, pending_on_failure, is_down_at};
+ghost use Rattle.switch.specs.Switch.{IsEffectUnlessDown, Plays, is_down_at, pending_on_failure};
 ghost use Rattle.switch.specs.Switch.{world_of};
 ghost use Rattle.switch.specs.LogPrefixes.{EventKeepsPrefixes};
 
@@ -20,11 +20,13 @@ impl<V: Value, K: Keep<V>> Switch<V, K> {
     /// the event meets, in the order that the comment of `StepFault` lists; else `Memory`, with
     /// nothing changed, or `Device` if the node's keep failed: the node is then down. A restart of
     /// a node that is down returns `EventsSpent` if fewer than two events are left; after `Memory`
-    /// or `Device` the node stays down.
+    /// or `Device` the node stays down. A restart of a node whose record could not be loaded at the
+    /// start loads it: after `Device` the node stays as it is; else it begins with that record, and
+    /// restarts as a node that is up.
     ///
     /// Cost: the step of the node, looking up one packet and storing one change; at a restart,
-    /// loading the record once; at the restart of a node that is down, also storing the pending
-    /// change and committing the pending event.
+    /// loading the record once, or twice if it could not be loaded at the start; at the restart of a
+    /// node that is down, also storing the pending change and committing the pending event.
     pub fn play(&mut self, event: Event<V>) -> Result<u64, StepFault>
         ensures plays { Plays V.bytes self.old self.new event result }
         ensures logs { EventKeepsPrefixes V.bytes event self.old self.new result }

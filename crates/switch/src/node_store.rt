@@ -7,9 +7,10 @@ ghost use Rattle.net.specs.Staged.{change_in, posts_of};
 ghost use Rattle.switch.specs.NodeStore.{Fails, IsWithOrWithout, pending_change, pending_of};
 ghost use Rattle.switch.specs.NodeStore.{pending_posts, status_of, up, down, with_change};
 ghost use Rattle.switch.specs.NodeStore.{with_pending_change};
-ghost use Rattle.switch.specs.Switch.{is_down, status_view};
+ghost use Rattle.switch.specs.Switch.{is_down, is_unloaded, status_view, view_of, IsResumedStore};
 
 use net::StagedEvent;
+use std::alloc::Global;
 use std::marker::Model;
 use std::mem;
 use synod::{Failed, Keep, Record, Value};
@@ -20,6 +21,8 @@ pub(crate) enum Status<V> {
     Up,
     /// A call of the keep failed: a load, or the store of this event.
     Down(Option<StagedEvent<V>>),
+    /// The record could not be loaded so far, and nothing happened at the node.
+    Unloaded,
 }
 
 /// A node's keep, and whether the node is up, or down and which event is pending.
@@ -48,6 +51,35 @@ impl<V: Value, K: Keep<V>> NodeStore<V, K> {
         }
     }
 
+    /// Creates the store of a node that begins with the record of its keep, and returns that
+    /// record. If it cannot be loaded, the node is unloaded, and the record is that of a new node.
+    pub fn resume(alloc: Global, keep: K) -> (Self, Record<V>)
+        ensures { IsResumedStore (K.kept keep) (K.failures keep) result.1.kept (view_of result.0) }
+    {
+        let mut keep = keep;
+        match keep.load() {
+            Ok(record) => (NodeStore::new(keep), record),
+            Err(Failed) => (
+                NodeStore {
+                    keep,
+                    status: Status::Unloaded,
+                },
+                Record::new(alloc),
+            ),
+        }
+    }
+
+    /// Returns whether the record of the node could not be loaded so far.
+    pub fn is_unloaded(&self) -> bool
+        ensures { result ≡ is_unloaded (status_view self.now.status) }
+    {
+        match &self.status {
+            Status::Up => false,
+            Status::Down(_) => false,
+            Status::Unloaded => true,
+        }
+    }
+
     /// Returns whether the node is down.
     pub fn is_down(&self) -> bool
         ensures { result ≡ is_down (status_view self.now.status) }
@@ -55,6 +87,7 @@ impl<V: Value, K: Keep<V>> NodeStore<V, K> {
         match &self.status {
             Status::Up => false,
             Status::Down(_) => true,
+            Status::Unloaded => true,
         }
     }
 
@@ -98,6 +131,7 @@ impl<V: Value, K: Keep<V>> NodeStore<V, K> {
             Status::Down(Some(staged)) => staged.posts().len(),
             Status::Down(None) => 0,
             Status::Up => 0,
+            Status::Unloaded => 0,
         }
     }
 
@@ -126,6 +160,7 @@ impl<V: Value, K: Keep<V>> NodeStore<V, K> {
             Status::Down(Some(staged)) => store_change(&mut self.keep, staged),
             Status::Down(None) => Ok(()),
             Status::Up => Ok(()),
+            Status::Unloaded => Ok(()),
         }
     }
 
@@ -137,6 +172,7 @@ impl<V: Value, K: Keep<V>> NodeStore<V, K> {
         match mem::replace(&mut self.status, Status::Up) {
             Status::Down(pending) => pending,
             Status::Up => None,
+            Status::Unloaded => None,
         }
     }
 }

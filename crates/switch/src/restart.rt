@@ -1,13 +1,14 @@
 //! Restarts a node of a switch.
-ghost use Rattle.std.specs.Prelude.{◌≡◌, Some, true, false};
+ghost use Rattle.std.specs.Prelude.{◌≡◌, Some, true, false, OnOk, OnErr};
 ghost use Rattle.std.specs.Result.{ForOk};
 ghost use Rattle.net.specs.declared.event.Event.TheVariants.{Restart};
-ghost use Rattle.switch.specs.Switch.{is_down_at, world_of, IsEffectUnlessDown, IsEffectAtDownNode};
-ghost use Rattle.switch.specs.Switch.{CanCommitPending, CommitsPending};
+ghost use Rattle.switch.specs.Switch.{is_down_at, is_unloaded_at, world_of, IsEffectUnlessDown};
+ghost use Rattle.switch.specs.Switch.{IsEffectAtDownNode, CanCommitPending, CommitsPending};
+ghost use Rattle.switch.specs.Switch.{IsLoadedAgain, IsReloadOutcome, StaysUnloaded};
 
 use crate::switch::Switch;
 use net::{Event, Net, StagedEvent, StepFault};
-use synod::{Keep, Value};
+use synod::{Failed, Keep, Value};
 
 impl<V: Value, K: Keep<V>> Switch<V, K> {
     /// Restarts a node that is up from the record that its keep loads, or returns `NoNode` if there
@@ -25,12 +26,17 @@ impl<V: Value, K: Keep<V>> Switch<V, K> {
     }
 
     /// Restarts a node that is down: stores the change of its pending event, and commits that event
-    /// before the restart.
+    /// before the restart. If the node is unloaded, its record is loaded again.
     pub(crate) fn restart_down(&mut self, k: u8) -> Result<u64, StepFault>
         requires { is_down_at self.old.stores (Some k) ≡ true }
-        ensures { ForOk (world_of V.bytes self.old)
+        ensures effect { ForOk (world_of V.bytes self.old)
             (λ world. IsEffectAtDownNode V.bytes world self.old self.new (Restart k) result) }
+        ensures unloaded { is_unloaded_at self.old.stores k ≡ true
+            → IsReloadOutcome V.bytes self.old self.new k result }
     {
+        if self.is_unloaded(k) {
+            return self.restart_unloaded(k);
+        }
         let left = self.net.event_limit() - self.net.history().len() as u64;
         if left < 2 {
             return Err(StepFault::EventsSpent);
@@ -49,6 +55,27 @@ impl<V: Value, K: Keep<V>> Switch<V, K> {
         commit_pending(&mut self.net, pending);
         staged.load(record);
         Ok(self.net.commit(staged))
+    }
+
+    /// Restarts a node that is unloaded, if its record can be loaded now: the node begins with that
+    /// record, is up, and restarts.
+    fn restart_unloaded(&mut self, k: u8) -> Result<u64, StepFault>
+        requires { is_unloaded_at self.old.stores k ≡ true }
+        ensures { IsReloadOutcome V.bytes self.old self.new k result }
+    {
+        self.load_again(k)?;
+        self.restart_up(k)
+    }
+
+    /// Loads the record of a node that is unloaded. The node then begins with it, and is up.
+    fn load_again(&mut self, k: u8) -> Result<(), Failed>
+        requires { is_unloaded_at self.old.stores k ≡ true }
+        ensures loaded { OnOk result (IsLoadedAgain V.bytes self.old self.new k) }
+        ensures failed { OnErr result (StaysUnloaded self.old self.new k) }
+    {
+        let (_pending, record) = self.stores[k as usize].bring_up()?;
+        self.net.begin_again(k, record);
+        Ok(())
     }
 }
 

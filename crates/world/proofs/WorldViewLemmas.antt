@@ -1,5 +1,5 @@
 -- The libraries of a world: each is that of its log, after any event and any entry applied.
-use Rattle.world.proofs.Words.{◌≡◌, ◌≢◌, ℕ, zero, suc, ◌+◌, ◌==◌, Bool, true, false, List, [], ◌∷◌, ◌++◌, length, take, replicate, set, slice_get, Option, Some, None, Result, Ok, Err, refl, ap, sym, ◌∙◌, subst, arith, add-one, length-append, IsOk, IfErr, nat_tests, length-set, length-replicate, take-append-le, slice_get_within, take_next, Entry, Text, Charter, Verdict, Added, Nothing, Refused, Repeat, ReplicaState, status_of, Applies, AppliesAt, Decides, IsLibraryOf, library-more, Carried, Event, Offer, Begin, Deliver, Restart, StepFault, World, start, event_result, events_result, log, log_after, IsPrefixOf, History, world_of, with_event, carried_size, value_event, value_events, entries_of, NodeLibrary, WorldView, new_node_library, new_node_libraries, node_restarted, with_library_reset, after_event, log_entries, IsOfLog, AreLibrariesOfLogs, if_taken, events_result-append, after-push, log_grows, at_set_other}
+use Rattle.world.proofs.Words.{◌≡◌, ◌≢◌, ℕ, zero, suc, ◌+◌, ◌==◌, Bool, true, false, List, [], ◌∷◌, ◌++◌, length, take, replicate, set, slice_get, Option, Some, None, Result, Ok, Err, refl, ap, sym, ◌∙◌, subst, arith, add-one, length-append, IsOk, IfErr, nat_tests, length-set, length-replicate, take-append-le, slice_get_within, take_next, Entry, Text, Charter, Verdict, Added, Nothing, Refused, Repeat, ReplicaState, status_of, Applies, AppliesAt, Decides, IsLibraryOf, library-more, Carried, Event, Offer, Begin, Deliver, Restart, StepFault, World, first_world, event_result, events_result, log, log_after, IsPrefixOf, BeginsNew, History, new_history, world_of, with_event, carried_size, value_event, value_events, entries_of, NodeLibrary, WorldView, new_node_library, new_node_libraries, node_restarted, with_library_reset, after_event, log_entries, IsOfLog, AreLibrariesOfLogs, if_taken, events_result-append, after-push, log_grows, at_set_other}
 use Rattle.world.proofs.EntryLogs.{value_events-append, entries_begin}
 
 -- A library and its log.
@@ -59,8 +59,9 @@ get-replicate (suc n) zero x y is = cc
 get-replicate (suc n) (suc k) x y is = get-replicate n k x y is
 
 -- new libraries, one for each node, are those of their logs
-pub new_are_libraries : (limit : Option ℕ) (history : History Carried) (nodes : ℕ) → nodes ≡ length history.weights → (libraries : List NodeLibrary) → libraries ≡ replicate nodes (new_node_library limit) → AreLibrariesOfLogs (record { history = history; work_limit = limit; libraries = libraries })
-new_are_libraries limit history nodes count libraries new = subst (λ (ls : List NodeLibrary). AreLibrariesOfLogs (record { history = history; work_limit = limit; libraries = ls })) (sym new) record {
+pub new_are_libraries : (limit : Option ℕ) (history : History Carried) → BeginsNew history → (nodes : ℕ) → nodes ≡ length history.weights → (libraries : List NodeLibrary) → libraries ≡ replicate nodes (new_node_library limit) → AreLibrariesOfLogs (record { history = history; work_limit = limit; libraries = libraries })
+new_are_libraries limit history begins nodes count libraries new = subst (λ (ls : List NodeLibrary). AreLibrariesOfLogs (record { history = history; work_limit = limit; libraries = ls })) (sym new) record {
+  begins_new = begins;
   one_each = length-replicate nodes (new_node_library limit) ∙ count;
   of_logs = λ k node is. subst (λ (n : NodeLibrary). IsOfLog limit (log_entries history k) n) (sym (get-replicate nodes k (new_node_library limit) node is)) (new_is_of_log limit (log_entries history k));
 }
@@ -84,7 +85,7 @@ no_restart k (Restart j) is = λ same. cc
 module _ (limit : Option ℕ) (history : History Carried) (w x : World Carried) (was : world_of carried_size history ≡ Ok w) (e : Event Carried) (is : world_of carried_size (with_event history e) ≡ Ok x) where
   -- the event leads from the world before it to the one after it
   happened : event_result carried_size w e ≡ Ok x
-  happened = sym (after-push carried_size history.weights history.event_limit history.events w e was) ∙ is
+  happened = sym (after-push carried_size history w e was) ∙ is
 
   -- the log of node k before an event other than its restart is a prefix of the log after it
   log_longer : (k : ℕ) → e ≢ Restart k → IsPrefixOf (log_entries history k) (log_entries (with_event history e) k)
@@ -121,7 +122,7 @@ as_many limit libraries (Some k) = length-set libraries k (new_node_library limi
 
 -- if a history with one more event is taken, so is the history
 ok_before : (history : History Carried) (e : Event Carried) → IsOk (world_of carried_size (with_event history e)) → IsOk (world_of carried_size history)
-ok_before history e is = before (world_of carried_size history) (subst IsOk (events_result-append carried_size history.events (e ∷ []) (Ok (start history.weights history.event_limit))) is) where
+ok_before history e is = before (world_of carried_size history) (subst IsOk (events_result-append carried_size history.events (e ∷ []) (Ok (first_world history))) is) where
   before : (r : Result (World Carried) StepFault) → IsOk (events_result carried_size (e ∷ []) r) → IsOk r
   before (Ok w) h = refl
   before (Err fault) h = h
@@ -131,6 +132,7 @@ then_are_libraries : (old : WorldView) (e : Event Carried) → IsOk (world_of ca
 then_are_libraries old e is h = both (world_of carried_size old.history) refl (world_of carried_size (with_event old.history e)) refl (ok_before old.history e is) is where
   both : (r : Result (World Carried) StepFault) → world_of carried_size old.history ≡ r → (s : Result (World Carried) StepFault) → world_of carried_size (with_event old.history e) ≡ s → IsOk r → IsOk s → AreLibrariesOfLogs (after_event old e)
   both (Ok w) at (Ok x) then ok done = record {
+    begins_new = h.begins_new;
     one_each = as_many old.work_limit old.libraries (node_restarted e) ∙ h.one_each;
     of_logs = keeps_each old.work_limit old.history w x at e then old.libraries h.of_logs (node_restarted e) refl;
   }
@@ -165,6 +167,7 @@ step_keeps old e history libraries restarted_node count h is restarts_is given r
 -- with the library of node k set to one of its log, each library is still that of its log
 pub applied_are_libraries : (old : WorldView) (k : ℕ) (next : NodeLibrary) → AreLibrariesOfLogs old → IsOfLog old.work_limit (log_entries old.history k) next → AreLibrariesOfLogs (record { history = old.history; work_limit = old.work_limit; libraries = set old.libraries k next })
 applied_are_libraries old k next h here = record {
+  begins_new = h.begins_new;
   one_each = length-set old.libraries k next ∙ h.one_each;
   of_logs = λ j node got. at_node j node got (k == j) refl;
 } where
@@ -191,7 +194,7 @@ new_given_up limit n (Some k) = set_again n k where
 -- the world of a run: its events, and new libraries
 abbrev pub run_world : List ℕ → ℕ → Option ℕ → List (Event Entry) → WorldView
 run_world weights event_limit work_limit done = record {
-  history = record { weights = weights; event_limit = event_limit; events = value_events done };
+  history = new_history weights event_limit (value_events done);
   work_limit = work_limit;
   libraries = new_node_libraries work_limit weights;
 }
@@ -201,5 +204,5 @@ pub run_goes_on : (weights : List ℕ) (event_limit : ℕ) (work_limit : Option 
     → new ≡ after_event old (value_event e) → new ≡ run_world weights event_limit work_limit (done ++ e ∷ [])
 run_goes_on weights event_limit work_limit done e old new was is =
     is ∙ (ap (λ (r : WorldView). after_event r (value_event e)) was
-    ∙ (ap (λ (es : List (Event Carried)). let r : WorldView = record { history = record { weights = weights; event_limit = event_limit; events = es }; work_limit = work_limit; libraries = with_library_reset work_limit (new_node_libraries work_limit weights) (node_restarted (value_event e)) } in r) (sym (value_events-append done (e ∷ [])))
-    ∙ ap (λ (ls : List NodeLibrary). let r : WorldView = record { history = record { weights = weights; event_limit = event_limit; events = value_events (done ++ e ∷ []) }; work_limit = work_limit; libraries = ls } in r) (new_given_up work_limit (length weights) (node_restarted (value_event e)))))
+    ∙ (ap (λ (es : List (Event Carried)). let r : WorldView = record { history = new_history weights event_limit es; work_limit = work_limit; libraries = with_library_reset work_limit (new_node_libraries work_limit weights) (node_restarted (value_event e)) } in r) (sym (value_events-append done (e ∷ [])))
+    ∙ ap (λ (ls : List NodeLibrary). let r : WorldView = record { history = new_history weights event_limit (value_events (done ++ e ∷ [])); work_limit = work_limit; libraries = ls } in r) (new_given_up work_limit (length weights) (node_restarted (value_event e)))))

@@ -7,7 +7,8 @@ pub use Rattle.mm_read.specs.Statements.{Database}
 pub use Rattle.mm_read.specs.declared.stmt.Stmt.{Stmt}
 pub use Rattle.net.specs.Agree.{Agree}
 pub use Rattle.net.specs.Agreement.{Agreement, IsMoment}
-pub use Rattle.net.specs.History.{History, with_event, world_of}
+pub use Rattle.net.specs.History.{BeginsNew, History, new_history, with_event, world_of}
+pub use Rattle.net.specs.Resumed.{GoesOn, IsMomentOfEither, RunBefore}
 pub use Rattle.net.specs.World.{World, log, log_after}
 pub use Rattle.net.specs.declared.event.Event.{Event}
 pub use Rattle.net.specs.declared.event.Event.TheVariants.{Begin, Deliver, Offer, Restart}

@@ -5,7 +5,7 @@
 -- The code has the nodes and packets too; by an invariant of its type (`AreLibrariesOfLogs`), each
 -- library is that of the first entries of its node's log.
 use Rattle.std.specs.Prelude.{◌≡◌, ◌+◌, ◌≤◌, ℕ, List, [], Option, Some, None, Result, Ok, Err, length, take, replicate, slice_get, slice_set}
-use Rattle.world.specs.Words.{Entry, Verdict, ReplicaState, empty, Applies, IsLibraryOf, Event, StepFault, Memory, Offer, Begin, Deliver, Restart, log_after, History, world_of, with_event}
+use Rattle.world.specs.Words.{Entry, Verdict, ReplicaState, empty, Applies, IsLibraryOf, Event, StepFault, Memory, Offer, Begin, Deliver, Restart, log_after, BeginsNew, History, new_history, world_of, with_event}
 use Rattle.world.specs.declared.carried.Carried.{Carried}
 use Rattle.world.specs.Carried.{carried_size, entries_of}
 
@@ -31,7 +31,7 @@ new_node_libraries limit weights = replicate (length weights) (new_node_library 
 -- a world before any event, with a limit on the number of events, and perhaps one on work
 abbrev pub new_world : List ℕ → ℕ → Option ℕ → WorldView
 new_world weights event_limit work_limit = record {
-  history = record { weights = weights; event_limit = event_limit; events = [] };
+  history = new_history weights event_limit [];
   work_limit = work_limit;
   libraries = new_node_libraries work_limit weights;
 }
@@ -67,9 +67,10 @@ pub record IsOfLog (limit : Option ℕ) (log : List (Option Entry)) (node_librar
   pub within : node_library.applied ≤ length log
   pub library : IsLibraryOf limit (take node_library.applied log) node_library.library
 
--- there is one library for each node, made of the first entries of that node's log under the
--- world's limit on work
+-- the nodes began as new ones, and there is one library for each node, made of the first entries of
+-- that node's log under the world's limit on work
 pub record AreLibrariesOfLogs (w : WorldView) : Type 0 where
+  pub begins_new : BeginsNew w.history
   pub one_each : length w.libraries ≡ length w.history.weights
   pub of_logs : (k : ℕ) (node_library : NodeLibrary) → slice_get w.libraries k ≡ Some node_library → IsOfLog w.work_limit (log_entries w.history k) node_library
 

@@ -1,6 +1,7 @@
 //! A world that takes all events of a list, one after another.
 ghost use Rattle.std.specs.Prelude.{◌≡◌, IfOk, IfErr, OnOk};
 ghost use Rattle.net.specs.Agreement.{RunStopsAt};
+ghost use Rattle.net.specs.History.{new_history};
 ghost use Rattle.world.specs.Carried.{carried_size, value_events};
 ghost use Rattle.world.specs.WorldView.{new_node_libraries};
 ghost use Rattle.world.specs.Headline.{Headline};
@@ -28,12 +29,12 @@ pub fn run(
     ensures taken { IfOk result
         (λ world. world
         ≡ record {
-          history = record { weights = weights; event_limit = event_limit; events = value_events events.items };
+          history = new_history weights event_limit (value_events events.items);
           work_limit = work_limit;
           libraries = new_node_libraries work_limit weights;
         }) }
     ensures headline { OnOk result
-        (Headline work_limit (record { weights = weights; event_limit = event_limit; events = value_events events.items })) }
+        (Headline work_limit (new_history weights event_limit (value_events events.items))) }
     ensures stops { IfErr result
         (λ stop. RunStopsAt carried_size weights event_limit (value_events events.items) stop.0 stop.1) }
 {

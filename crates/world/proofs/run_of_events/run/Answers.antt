@@ -1,4 +1,4 @@
-use Rattle.world.proofs.Words.{◌≡◌, List, ◌∷◌, ◌++◌, [], ap, sym, ◌∙◌, subst, append_assoc, into_iter_items, into_iter_steps, append-nil, nil_from_length, Yields-more, Entry, Event, value_event, value_events, carried_size, History, Carried, Headline, WorldView, taken_front, stops_there}
+use Rattle.world.proofs.Words.{◌≡◌, List, ◌∷◌, ◌++◌, [], ap, sym, ◌∙◌, subst, append_assoc, into_iter_items, into_iter_steps, append-nil, nil_from_length, Yields-more, Entry, Event, value_event, value_events, carried_size, BeginsNew, new_history, Carried, Headline, refl, WorldView, taken_front, stops_there}
 use Rattle.world.proofs.EntryLogs.{value_events-append}
 use Rattle.world.proofs.HeadlineLemmas.{headline_holds}
 use Rattle.world.proofs.WorldViewLemmas.{run_goes_on, step_taken}
@@ -32,5 +32,5 @@ returns-clause-headline c =
     let whole : c.args.events.items ≡ done =
     sym c.into_iter-event-iterator.ensures.into_iter_gives.0 ∙ (taken_front c.into_iter-event-iterator.result done it c.loop-event.yielded_by
     ∙ (ap (λ (es : List (Event Entry)). done ++ es) none ∙ append-nil done)) in
-    subst (Headline c.args.work_limit) (ap (λ (r : WorldView). r.history) c.loop-event.invariant.world ∙ ap (λ (es : List (Event Entry)). let t : History Carried = record { weights = c.args.weights; event_limit = c.args.event_limit; events = value_events es } in t) (sym whole))
-    (headline_holds c.args.work_limit c.loop-event.world.history c.loop-event.invariant.taken)
+    subst (Headline c.args.work_limit) (ap (λ (r : WorldView). r.history) c.loop-event.invariant.world ∙ ap (λ (es : List (Event Entry)). new_history c.args.weights c.args.event_limit (value_events es)) (sym whole))
+    (headline_holds c.args.work_limit c.loop-event.world.history (subst (λ (r : WorldView). BeginsNew r.history) (sym c.loop-event.invariant.world) refl) c.loop-event.invariant.taken)

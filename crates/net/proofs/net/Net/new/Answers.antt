@@ -1,8 +1,8 @@
-use Rattle.net.proofs.HistoryLemmas.{start_of_world}
+use Rattle.net.proofs.HistoryLemmas.{resumed_new, new_parts-count}
 use Rattle.net.proofs.net.Net.new.Goals as goal
 
-pub invariant_of-result : goal.invariant_of-result
-invariant_of-result g c = start_of_world g.V.Value.bytes c.args.weights c.args.event_limit c.in_ok-new_nodes.ensures.weights _ _ _ c.in_ok-new_nodes.ensures.nodes c.new-2.ensures.items c.new.ensures.items
+pub resume-requires : goal.resume-requires
+resume-requires g c = new_parts-count c.args.weights c.in_ok-records.records.items c.in_ok-records.ensures
 
-pub returns-clause-world : goal.returns-clause-world
-returns-clause-world g c = start_of_world g.V.Value.bytes c.args.weights c.args.event_limit c.in_ok-new_nodes.ensures.weights _ _ _ c.in_ok-new_nodes.ensures.nodes c.new-2.ensures.items c.new.ensures.items
+pub returns-clause-new : goal.returns-clause-new
+returns-clause-new g c = resumed_new c.args.weights c.args.event_limit _ c.resume.result c.resume.ensures.resumed c.in_ok-records.ensures

@@ -11,5 +11,5 @@ invariant_of-result g c =
 
 pub returns-clause-new : goal.returns-clause-new
 returns-clause-new g c =
-    view_is_same _ _ _ _ _ _ _ _ (ap (λ (t : History g.row.V.Denot). t.weights) c.in_ok-net.ensures.new) (ap (λ (t : History g.row.V.Denot). t.event_limit) c.in_ok-net.ensures.new) (ap (λ (t : History g.row.V.Denot). t.events) c.in_ok-net.ensures.new)
+    view_is_same _ _ _ _ _ _ _ _ _ _ (ap (λ (t : History g.row.V.Denot). t.weights) c.in_ok-net.ensures.new) (ap (λ (t : History g.row.V.Denot). t.event_limit) c.in_ok-net.ensures.new) (ap (λ (t : History g.row.V.Denot). t.begins) c.in_ok-net.ensures.new) (ap (λ (t : History g.row.V.Denot). t.events) c.in_ok-net.ensures.new)
     (ap (λ (stores : List (StoreState g.row.V.Denot)). views_of stores) c.in_ok-stores.ensures ∙ views_new g.K.Keep.kept g.K.Keep.failures c.args.keeps.items c.requires.new)

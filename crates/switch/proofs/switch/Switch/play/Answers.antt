@@ -1,12 +1,12 @@
 use Rattle.switch.proofs.Words.{ℕ, false, Result, Err, subst, sym, ◌∙◌, ForOk, Event, StepFault, Down, IsEffectAtDownNode, IsEffectUnlessDown, world_of}
-use Rattle.switch.proofs.DispatchLemmas.{no_restart, refused_down, test_at}
+use Rattle.switch.proofs.DispatchLemmas.{no_restart, own_restart, refused_down, test_at}
 use Rattle.switch.proofs.TieLemmas.{found_at, plays_down, plays_up}
 use Rattle.switch.proofs.switch.Switch.play.Goals as goal
 
 pub returns-in-Restart : goal.returns-in-Restart
 returns-in-Restart g c =
-    let p = plays_down g.V.Value.bytes _ _ c.self.invariant _ c.self.view_is c.args.event c.node_of.result c.node_of.ensures (sym c.is_down-is_down.ensures ∙ c.if-is_down.true) c.restart_down.new.self c.restart_down.result
-    (subst (λ (e : Event g.row.V.Denot). ForOk (world_of g.V.Value.bytes c.args.self.now) (λ x. IsEffectAtDownNode g.V.Value.bytes x c.args.self.now c.restart_down.new.self e c.restart_down.result)) (sym c.in-Restart.is) c.restart_down.ensures) in
+    let p = plays_down g.V.Value.bytes _ _ c.self.invariant _ c.self.view_is c.args.event c.node_of.result c.node_of.ensures (sym c.is_down-is_down.ensures ∙ c.if-is_down.true) c.restart_down.new.self c.restart_down.result (own_restart g.V.Value.bytes c.args.self.now c.restart_down.new.self c.restart_down.result c.args.event c.in-Restart.k c.in-Restart.is c.restart_down.ensures.unloaded)
+    (subst (λ (e : Event g.row.V.Denot). ForOk (world_of g.V.Value.bytes c.args.self.now) (λ x. IsEffectAtDownNode g.V.Value.bytes x c.args.self.now c.restart_down.new.self e c.restart_down.result)) (sym c.in-Restart.is) c.restart_down.ensures.effect) in
     record { plays = p.0; logs = p.1 }
 
 pub returns-in-Restart-2 : goal.returns-in-Restart-2
@@ -17,7 +17,7 @@ returns-in-Restart-2 g c =
 
 pub returns-in_default : goal.returns-in_default
 returns-in_default g c =
-    let p = plays_down g.V.Value.bytes _ _ c.self.invariant _ c.self.view_is c.args.event c.node_of.result c.node_of.ensures (sym c.is_down-is_down.ensures ∙ c.if-is_down-2.true) c.args.self.now (let r : Result ℕ StepFault = Err Down in r)
+    let p = plays_down g.V.Value.bytes _ _ c.self.invariant _ c.self.view_is c.args.event c.node_of.result c.node_of.ensures (sym c.is_down-is_down.ensures ∙ c.if-is_down-2.true) c.args.self.now (let r : Result ℕ StepFault = Err Down in r) (λ k is yes. absurd (c.in_default.not-Restart k is))
     (refused_down g.V.Value.bytes c.args.self.now c.args.event (no_restart c.args.event c.in_default.not-Restart)) in
     record { plays = p.0; logs = p.1 }
 

@@ -1,7 +1,0 @@
--- What is read, and what the bytes that are left say, is the whole.
-use Rattle.std.proofs.Common.{◌≡◌, ◌++◌, drop}
-use Rattle.file_keep.specs.EntryColumns.{numbers_read}
-use Rattle.file_keep.proofs.carried_columns.read_names.Given as goal
-
-abbrev pub invariant-loop-byte : goal.invariant-loop-byte
-invariant-loop-byte l = l.numbers.items ++ numbers_read l.value (drop l.byte-index l.text) ≡ numbers_read 0 l.text

@@ -1,0 +1,9 @@
+//! What `serve --store` asks of a folder in which nodes keep their stable storage, and what such a
+//! folder keeps, as lines.
+#![tactic(auto)]
+
+mod keep_folder;
+mod stored_lines;
+
+pub use keep_folder::{FolderRefusal, FolderTerms, KeepFolder, KeptNode};
+pub use stored_lines::push_stored;

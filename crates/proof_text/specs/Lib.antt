@@ -1,0 +1,2 @@
+pub mod ProofTexts
+pub mod Requests

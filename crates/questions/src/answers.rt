@@ -1,0 +1,140 @@
+//! The answers to questions about a library.
+ghost use Rattle.std.specs.Prelude.{◌≡◌, IfOk};
+ghost use Rattle.library.specs.Queries.{IsTreeOf};
+ghost use Rattle.verify.specs.Derivations.{Derivation};
+ghost use Rattle.printed.specs.Trees.{tree_lines};
+
+use crate::fault::Fault;
+use crate::named_text::NamedText;
+use crate::proof_texts::write_export_with_proofs;
+use crate::proofs::write_proof;
+use crate::searches::matching_lines;
+use crate::shown::blocks_of_labels;
+use crate::streams::print;
+use commands::Question;
+use extract::extract;
+use library::Library;
+use mm_lex::Word;
+use mm_read::Stmt;
+use printed::{push_assertions, push_labels, push_tree};
+use std::alloc::{AllocError, Global};
+use std::io::Write;
+use text::push_number;
+
+/// Writes the answer to a question about a library. `text` has the same statements, in order, but a
+/// `$a` of the library may be a `$p` there (`--assume`); it may be empty if the answer prints
+/// neither lines and columns nor descriptions.
+///
+/// Errors: those of the question, before anything is written; `Output` if a write fails; `Memory`
+/// if an allocation fails, perhaps after some steps of a proof.
+pub fn write_answer<O: Write>(
+    alloc: Global,
+    library: &Library,
+    text: NamedText<'_>,
+    question: &Question<'_>,
+    output: &mut O,
+) -> Result<(), Fault> {
+    match question {
+        Question::Check => print(output, proved_line(alloc, library.statements())?.as_slice()),
+        Question::CheckEach => {
+            print(
+                output,
+                all_proved_line(alloc, library.statements())?.as_slice(),
+            )
+        }
+        Question::List => print(output, assertion_lines(alloc, library)?.as_slice()),
+        Question::Export(None) => print(output, library.export()?.as_slice()),
+        Question::Export(Some(form)) => write_export_with_proofs(alloc, library, *form, output),
+        Question::Tree(label) => print(output, derivation_lines(alloc, library, label)?.as_slice()),
+        Question::Trace(label) => print_labels(alloc, library.trace(label)?.as_slice(), output),
+        Question::Usage { label, all } => {
+            print_labels(alloc, library.usage(label, *all)?.as_slice(), output)
+        }
+        Question::Proof(proof) => write_proof(alloc, library, proof, output),
+        Question::Extract(labels) => {
+            print(
+                output,
+                extract(alloc, library, labels.as_slice())?.as_slice(),
+            )
+        }
+        Question::Show(labels) => {
+            print(
+                output,
+                blocks_of_labels(alloc, library, text, labels.as_slice())?.as_slice(),
+            )
+        }
+        Question::Find(query) => {
+            print(
+                output,
+                matching_lines(alloc, library, text.bytes, query)?.as_slice(),
+            )
+        }
+    }
+}
+
+/// Returns the line `proved N`, where N is the number of `$p`.
+fn proved_line(alloc: Global, statements: &[Stmt]) -> Result<Vec<u8>, AllocError> {
+    let mut line = Vec::from_slice(alloc, b"proved ")?;
+    push_number(&mut line, count_of_proofs(statements) as u64)?;
+    line.extend_from_slice(b"\n")?;
+    Ok(line)
+}
+
+/// Returns the line `proved N of N`, where N is the number of `$p`.
+fn all_proved_line(alloc: Global, statements: &[Stmt]) -> Result<Vec<u8>, AllocError> {
+    let mut line = Vec::new(alloc);
+    push_proved(&mut line, statements, 0)?;
+    Ok(line)
+}
+
+/// Appends the line `proved N of M`: there are M `$p`, and all but `unproved` of them are proved.
+pub fn push_proved(
+    line: &mut Vec<u8>,
+    statements: &[Stmt],
+    unproved: usize,
+) -> Result<(), AllocError> {
+    let all = count_of_proofs(statements);
+    line.extend_from_slice(b"proved ")?;
+    push_number(line, all.saturating_sub(unproved) as u64)?;
+    line.extend_from_slice(b" of ")?;
+    push_number(line, all as u64)?;
+    line.extend_from_slice(b"\n")
+}
+
+/// Returns how many of the statements are `$p`.
+fn count_of_proofs(statements: &[Stmt]) -> usize {
+    let mut count = 0usize;
+    for statement in statements {
+        if let Stmt::Prove { .. } = statement {
+            count = count.saturating_add(1);
+        }
+    }
+    count
+}
+
+/// Returns a line for each assertion.
+fn assertion_lines(alloc: Global, library: &Library) -> Result<Vec<u8>, AllocError> {
+    let list = library.list()?;
+    let mut lines = Vec::new(alloc);
+    push_assertions(&mut lines, list.as_slice())?;
+    Ok(lines)
+}
+
+/// Returns a line for each node of the derivation of a `$p`.
+pub fn derivation_lines(alloc: Global, library: &Library, label: &[u8]) -> Result<Vec<u8>, Fault>
+    ensures { IfOk result (λ lines. (t : Derivation)
+        × IsTreeOf library.now.replica.statements label.now t
+        × (lines.items ≡ tree_lines library.now.replica.statements 0 t)) }
+{
+    let tree = library.tree(label)?;
+    let mut lines = Vec::new(alloc);
+    push_tree(&mut lines, library.statements(), &tree, 0)?;
+    Ok(lines)
+}
+
+/// Prints a line for each label.
+fn print_labels<O: Write>(alloc: Global, labels: &[Word], output: &mut O) -> Result<(), Fault> {
+    let mut lines = Vec::new(alloc);
+    push_labels(&mut lines, labels)?;
+    print(output, lines.as_slice())
+}
