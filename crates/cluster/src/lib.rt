@@ -31,4 +31,4 @@ pub use cell::{NodeCell, apply_on, apply_on_with, belongs, cells, list_on, resum
 pub use compare::{Ahead, compare_on};
 pub use events::{begin_on, deliver_on, offer_on, restart_on};
 pub use memory_keep::MemoryKeep;
-pub use switch::Switch;
+pub use switch::{Delivered, Switch};

@@ -1,5 +1,5 @@
 //! The keep of a node (its stable storage) in memory.
-ghost use Rattle.std.specs.Prelude.{◌≡◌};
+ghost use Rattle.std.specs.Prelude.{◌≡◌, true};
 ghost use Rattle.slots.specs.FiniteMap.{trimmed};
 ghost use Rattle.synod.specs.Record.{new_kept};
 
@@ -40,12 +40,18 @@ impl<V: Value> Keep<V> for MemoryKeep<V> {
 
     ghost failures = { λ s. s.failures.count };
 
+    ghost is_committed = { λ _. true };
+
     fn store(&mut self, change: &Change<V>) -> Result<(), Failed> {
         let Ok(change) = ready_change(&mut self.stored, change) else {
             self.failures.tick();
             return Err(Failed);
         };
         self.stored.apply_change(Some(change));
+        Ok(())
+    }
+
+    fn commit(&mut self) -> Result<(), Failed> {
         Ok(())
     }
 

@@ -2,7 +2,7 @@
 -- that follow.
 -- Source: this project's own form.
 -- The code reads a line, then the lines of its text, and then parses all of them.
-use Rattle.std.specs.Prelude.{ℕ, Bool, true, false, List, codes, Option, Some, None, option_map}
+use Rattle.std.specs.Prelude.{ℕ, Bool, true, false, nat_lt, List, codes, Option, Some, None, option_map, option_and_then, if◌then◌else◌}
 use Rattle.std.specs.Str.{bytes_eq}
 use Rattle.commands.specs.declared.serve_line.ServeLine.{ServeLine}
 use Rattle.commands.specs.declared.session_line.SessionLine.{SessionLine}
@@ -11,6 +11,7 @@ use Rattle.commands.specs.declared.text_form.TextForm.{TextForm}
 use Rattle.commands.specs.declared.text_form.TextForm.TheVariants.{Rest, Lines, Bytes}
 use Rattle.commands.specs.declared.session_texts.TextEnd.{TextEnd}
 use Rattle.commands.specs.declared.session_texts.TextEnd.TheVariants.{AtWord, AfterBytes}
+use Rattle.library.specs.declared.submission.TheConstants.{MAX_BYTES}
 use Rattle.commands.specs.LineWords.{◌>>=◌, Words, line_by_first_word, first_entry_id, one_number}
 use Rattle.commands.specs.Texts.{one_word}
 use Rattle.commands.specs.ServeLines.{submit_form, add_form, serve_line_of}
@@ -41,12 +42,16 @@ abbrev pub end_view : TextEnd → End
 end_view (AtWord w) = word w.now
 end_view (AfterBytes n) = bytes n
 
+-- a number of bytes, if no text that has so many is too long
+abbrev pub text_size : ℕ → Option ℕ
+text_size n = if nat_lt MAX_BYTES n then None else Some n
+
 -- where a text in this form ends, given the words after its author and serial number; a text on the
 -- line ends with the line
 abbrev pub end_by : TextForm → Words → Option End
 end_by Rest ws = None
 end_by Lines ws = option_map (λ w. word w) (one_word ws)
-end_by Bytes ws = option_map (λ n. bytes n) (one_number ws)
+end_by Bytes ws = option_map (λ n. bytes n) (option_and_then text_size (one_number ws))
 
 -- where the text of the line with this verb and these words ends, if the text is on the lines that
 -- follow

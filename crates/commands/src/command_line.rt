@@ -1,7 +1,7 @@
 //! The request that the words of a command line make.
 ghost use Rattle.std.specs.Prelude.{◌≤◌, IfOk};
 
-use crate::grammar::{commands, matches_of};
+use crate::grammar::{command_named, commands, matches_of};
 use crate::hints::push_hint;
 use crate::picture_options::pictured_steps;
 use crate::request::{
@@ -11,7 +11,7 @@ use crate::request::{
 use crate::weights::{WorkerCount, parse_weights};
 use clap::error::ErrorKind;
 use clap::{ArgMatches, Error};
-use finding::{Pattern, PatternFault, SearchQuery, SearchWords};
+use finding::{LabelPattern, Pattern, PatternFault, SearchQuery, SearchWords};
 use std::alloc::{AllocError, Global};
 use synod::{MAX_NODES, Weights};
 use text::parse_number;
@@ -78,11 +78,14 @@ fn request<'a>(alloc: Global, matches: &ArgMatches<'a>) -> Result<Request<'a>, C
             name: options.get_str("name"),
             most: most(alloc, options)?,
         })),
-        Some(("pages", options)) => Ok(Request::Pages(SiteRequest {
-            folder: options.get_str("folder").unwrap_or(""),
-            name: options.get_str("name"),
-            assumes_unproved: options.get_flag("assume"),
-        })),
+        Some(("pages", options)) => match options.get_str("folder") {
+            None | Some("") => Err(invalid_value(alloc, "FOLDER is the path of a folder")),
+            Some(folder) => Ok(Request::Pages(SiteRequest {
+                folder,
+                name: options.get_str("name"),
+                assumes_unproved: options.get_flag("assume"),
+            })),
+        },
         Some(("play", options)) => {
             let played = play_options(alloc, options)?;
             match pictured_steps(alloc, options)? {
@@ -94,6 +97,14 @@ fn request<'a>(alloc: Global, matches: &ArgMatches<'a>) -> Result<Request<'a>, C
             }
         }
         Some(("serve", options)) => Ok(Request::Serve(serve_options(alloc, options)?)),
+        Some(("store", options)) => match options.get_str("folder") {
+            None | Some("") => Err(invalid_option(
+                alloc,
+                "store",
+                "FOLDER is the path of a folder",
+            )),
+            Some(folder) => Ok(Request::Store { folder }),
+        },
         Some((command, options)) => Ok(Request::Ask(DatabaseQuestion {
             question: question(alloc, command, options)?,
             name: options.get_str("name"),
@@ -105,25 +116,33 @@ fn request<'a>(alloc: Global, matches: &ArgMatches<'a>) -> Result<Request<'a>, C
 
 /// Returns the nodes that the options of `play` give.
 fn play_options(alloc: Global, options: &ArgMatches) -> Result<PlayOptions, CommandLineFault> {
-    let nodes = node_count(alloc, options)?;
+    let nodes = node_count(alloc, "play", options)?;
     Ok(PlayOptions {
         weights: weights(alloc, options, nodes)?,
         event_limit: event_limit(alloc, options)?,
-        work_limit: work_limit(alloc, options, None)?,
+        work_limit: work_limit(alloc, "play", options, None)?,
     })
 }
 
 /// Returns the nodes that the options of `serve` give, and how its lines are read.
-fn serve_options(alloc: Global, options: &ArgMatches) -> Result<ServeOptions, CommandLineFault> {
-    let nodes = node_count(alloc, options)?;
+fn serve_options<'a>(
+    alloc: Global,
+    options: &ArgMatches<'a>,
+) -> Result<ServeOptions<'a>, CommandLineFault> {
+    let nodes = node_count(alloc, "serve", options)?;
     let workers = worker_count(alloc, options)?;
     let seed = weather_seed(alloc, options)?;
     let is_live = options.get_flag("live");
+    let store = options.get_str("store");
+    if store == Some("") {
+        return Err(invalid_option(alloc, "serve", "--store is the path of a folder"));
+    }
     let default = if is_live { Some(LIVE_WORK_LIMIT) } else { None };
     Ok(ServeOptions {
         weights: weights(alloc, options, nodes)?,
         event_limit: MAX_EVENT_LIMIT,
-        work_limit: work_limit(alloc, options, default)?,
+        work_limit: work_limit(alloc, "serve", options, default)?,
+        store,
         workers,
         weather_seed: seed,
         is_live,
@@ -177,6 +196,12 @@ fn search_query<'a>(
             None => Err(invalid_value(alloc, "a word is wanted")),
         };
     }
+    if options.get_flag("labels") {
+        if text.is_empty() {
+            return Err(invalid_value(alloc, "a pattern of labels is wanted"));
+        }
+        return Ok(SearchQuery::Labels(LabelPattern::new(text)));
+    }
     match Pattern::parse(alloc, text) {
         Ok(pattern) if options.get_flag("hypotheses") => Ok(SearchQuery::WithHypotheses(pattern)),
         Ok(pattern) => Ok(SearchQuery::Pattern(pattern)),
@@ -193,6 +218,8 @@ fn search_query<'a>(
 fn proof_form(options: &ArgMatches) -> ProofForm {
     if let Some(form) = proof_text_form(options) {
         ProofForm::Text(form)
+    } else if options.get_flag("so-far") {
+        ProofForm::SoFar
     } else if options.get_flag("dot") {
         ProofForm::Picture
     } else if options.get_flag("html") {
@@ -214,7 +241,7 @@ fn proof_text_form(options: &ArgMatches) -> Option<ProofTextForm> {
 }
 
 /// Returns the count of nodes, which is 1 to 9.
-fn node_count(alloc: Global, options: &ArgMatches) -> Result<u8, CommandLineFault>
+fn node_count(alloc: Global, command: &str, options: &ArgMatches) -> Result<u8, CommandLineFault>
     ensures { IfOk result (λ nodes. (1 ≤ nodes) × (nodes ≤ MAX_NODES)) }
 {
     if let Some(number) = number(options, "nodes")
@@ -223,14 +250,14 @@ fn node_count(alloc: Global, options: &ArgMatches) -> Result<u8, CommandLineFaul
     {
         return Ok(number as u8);
     }
-    Err(invalid_value(alloc, "--nodes is a number from 1 to 9"))
+    Err(invalid_option(alloc, command, "--nodes is a number from 1 to 9"))
 }
 
 /// Returns the count of workers.
 fn worker_count(alloc: Global, options: &ArgMatches) -> Result<WorkerCount, CommandLineFault> {
     match number(options, "workers").and_then(WorkerCount::new) {
         Some(workers) => Ok(workers),
-        None => Err(invalid_value(alloc, "--workers is a number from 1 to 16")),
+        None => Err(invalid_option(alloc, "serve", "--workers is a number from 1 to 16")),
     }
 }
 
@@ -241,13 +268,18 @@ fn event_limit(alloc: Global, options: &ArgMatches) -> Result<u64, CommandLineFa
     }
     match number(options, "max-events") {
         Some(limit) if 1 <= limit && limit <= MAX_EVENT_LIMIT => Ok(limit),
-        _ => Err(invalid_value(alloc, "--max-events is a number from 1 to 4294967296")),
+        _ => Err(invalid_option(
+            alloc,
+            "play",
+            "--max-events is a number from 1 to 4294967296",
+        )),
     }
 }
 
 /// Returns the limit on work that `--max-work` gives, or `default` if it is not given.
 fn work_limit(
     alloc: Global,
+    command: &str,
     options: &ArgMatches,
     default: Option<u64>,
 ) -> Result<Option<u64>, CommandLineFault> {
@@ -258,8 +290,9 @@ fn work_limit(
     }
     match number(options, "max-work") {
         Some(limit) if limit >= 1 => Ok(Some(limit)),
-        _ => Err(invalid_value(
+        _ => Err(invalid_option(
             alloc,
+            command,
             "--max-work is a number from 1 to 18446744073709551615, or none",
         )),
     }
@@ -283,7 +316,7 @@ fn weather_seed(alloc: Global, options: &ArgMatches) -> Result<Option<u64>, Comm
     };
     match parse_number(text.as_bytes()) {
         Some(seed) => Ok(Some(seed)),
-        None => Err(invalid_value(alloc, "--weather is a number")),
+        None => Err(invalid_option(alloc, "serve", "--weather is a number")),
     }
 }
 
@@ -313,6 +346,21 @@ fn weights(alloc: Global, options: &ArgMatches, nodes: u8) -> Result<Weights, Co
 /// Returns the fault of a bad value, with this text.
 pub(crate) fn invalid_value(alloc: Global, text: &str) -> CommandLineFault {
     fault_of_kind(alloc, ErrorKind::InvalidValue, text)
+}
+
+/// Returns the fault of a bad value of an option of a command, with this text and the usage of the
+/// command.
+pub(crate) fn invalid_option(alloc: Global, command: &str, text: &str) -> CommandLineFault {
+    match option_refusal_text(alloc, command, text) {
+        Ok(text) => CommandLineFault::Bad { text },
+        Err(AllocError) => CommandLineFault::Memory,
+    }
+}
+
+/// Returns the text of `clap` for a bad value of an option of a command.
+fn option_refusal_text(alloc: Global, command: &str, text: &str) -> Result<String, AllocError> {
+    let error = command_named(alloc, command)?.error(ErrorKind::InvalidValue, text)?;
+    format!(in alloc; "{error}")
 }
 
 /// Returns the fault of a command line without a command.

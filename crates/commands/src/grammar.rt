@@ -58,20 +58,25 @@ const STATEMENT_LABELS: Argument = Argument {
 const PATTERN: Argument = Argument {
     name: "pattern",
     form: ArgumentForm::Pattern,
-    help: "Symbols in one argument, $? for any one symbol, $* for any number of symbols; \
-           one that begins with - stands after --",
+    help: "Symbols in one argument, $? for any one symbol, $* for any number of symbols",
 };
 
 const HYPOTHESES: Argument = Argument {
     name: "hypotheses",
     form: ArgumentForm::FlagWithout("words"),
-    help: "Also assertions that have the pattern in one of their $e",
+    help: "Also assertions that have the pattern in one of their $e, which are printed too",
 };
 
 const WORDS: Argument = Argument {
     name: "words",
     form: ArgumentForm::Flag,
     help: "PATTERN is words that the description has, in any case of letters",
+};
+
+const LABELS: Argument = Argument {
+    name: "labels",
+    form: ArgumentForm::FlagWithoutAny(&["words", "hypotheses"]),
+    help: "PATTERN is a pattern of labels, * for any number of letters: find --labels '*ex*'",
 };
 
 const FOLDER: Argument = Argument {
@@ -132,6 +137,18 @@ const SERVED_MAX_WORK: Argument = Argument {
     name: "max-work",
     form: ArgumentForm::Optional("N"),
     help: "The greatest work that an entry may count, or none; else none, and 1000000000 with --live",
+};
+
+const STORE: Argument = Argument {
+    name: "store",
+    form: ArgumentForm::Optional("FOLDER"),
+    help: "The folder in which the nodes keep their library; else it ends with the process",
+};
+
+const STORED_FOLDER: Argument = Argument {
+    name: "folder",
+    form: ArgumentForm::Folder,
+    help: "The folder, which no process has open",
 };
 
 const MOST: Argument = Argument {
@@ -206,6 +223,19 @@ const COMPRESSED: Argument = Argument {
     help: "The $p with its proof in compressed form, to paste into a database",
 };
 
+const SO_FAR: Argument = Argument {
+    name: "so-far",
+    form: ArgumentForm::FlagWithoutAny(&[
+        "normal",
+        "compressed",
+        "essential",
+        "dot",
+        "html",
+        "assume",
+    ]),
+    help: "The steps of an unfinished or wrong proof up to its fault, and what is left to prove",
+};
+
 const EXPORT_NORMAL: Argument = Argument {
     name: "normal",
     form: ArgumentForm::FlagWithout("compressed"),
@@ -226,7 +256,7 @@ struct CommandDefinition(
     &'static [Argument],
 );
 
-const COMMANDS: [CommandDefinition; 15] = [
+const COMMANDS: [CommandDefinition; 16] = [
     CommandDefinition(
         "outline",
         "mmlib outline < DATABASE",
@@ -280,7 +310,7 @@ const COMMANDS: [CommandDefinition; 15] = [
         "mmlib proof LABEL < DATABASE",
         "Print the steps of the proof of a $p of the database on standard input: mmlib proof id --essential < set.mm",
         &[
-            LABEL, ESSENTIAL, DOT, HTML, NORMAL, COMPRESSED, ASSUME, NAME,
+            LABEL, ESSENTIAL, DOT, HTML, NORMAL, COMPRESSED, SO_FAR, ASSUME, NAME,
         ],
     ),
     CommandDefinition(
@@ -299,7 +329,7 @@ const COMMANDS: [CommandDefinition; 15] = [
         "find",
         "mmlib find PATTERN < DATABASE",
         "Print the assertions of the database on standard input that have a pattern: mmlib find '( $? -> $? )' < set.mm",
-        &[PATTERN, HYPOTHESES, WORDS, ASSUME, NAME],
+        &[PATTERN, HYPOTHESES, WORDS, LABELS, ASSUME, NAME],
     ),
     CommandDefinition(
         "pages",
@@ -325,7 +355,21 @@ const COMMANDS: [CommandDefinition; 15] = [
         "serve",
         "mmlib serve --nodes N --workers W < SCRIPT",
         "Serve the lines of a script on standard input by nodes that are threads: mmlib serve --nodes 3 --workers 2 < my.script",
-        &[NODES, WORKERS, WEIGHTS, SERVED_MAX_WORK, WEATHER, LIVE],
+        &[
+            NODES,
+            WORKERS,
+            WEIGHTS,
+            SERVED_MAX_WORK,
+            STORE,
+            WEATHER,
+            LIVE,
+        ],
+    ),
+    CommandDefinition(
+        "store",
+        "mmlib store FOLDER",
+        "Print what each node keeps in a folder of serve --store: mmlib store my.library",
+        &[STORED_FOLDER],
     ),
 ];
 
@@ -351,6 +395,16 @@ pub(crate) fn matches_of<'a>(alloc: Global, words: &'a [&'a str]) -> Result<ArgM
     commands(alloc)?.try_get_matches_from(words)
 }
 
+/// Returns the command with this name, or all commands if there is none.
+pub(crate) fn command_named<'a>(alloc: Global, name: &str) -> Result<Command<'a>, AllocError> {
+    for definition in &COMMANDS {
+        if definition.0 == name {
+            return command(alloc, definition);
+        }
+    }
+    commands(alloc)
+}
+
 /// Returns the command of `clap` with this definition.
 fn command<'a>(alloc: Global, definition: &CommandDefinition) -> Result<Command<'a>, AllocError> {
     let CommandDefinition(name, usage, help, arguments) = *definition;
@@ -371,7 +425,11 @@ fn clap_argument<'a>(alloc: Global, argument: &Argument) -> Result<Arg<'a>, Allo
     let arg = Arg::new(alloc, argument.name).help(argument.help);
     match argument.form {
         ArgumentForm::Label => Ok(arg.required(true).value_name("LABEL")),
-        ArgumentForm::Pattern => Ok(arg.required(true).value_name("PATTERN")),
+        ArgumentForm::Pattern => Ok(
+            arg.required(true)
+                .value_name("PATTERN")
+                .allow_hyphen_values(true),
+        ),
         ArgumentForm::Folder => Ok(arg.required(true).value_name("FOLDER")),
         ArgumentForm::Labels => Ok(
             arg.required(true)

@@ -27,25 +27,14 @@ pub(crate) fn push_hint(
     }
     for step in 0..words.len() {
         let index = words.len() - 1 - step;
-        if may_be_file(words, index) {
+        if is_file_name(words[index]) {
             let others = without(alloc, words, index)?;
-            if let Some(kind) = input_kind_of(alloc, others.as_slice())
-                && (kind == InputKind::Database || is_file_name(words[index]))
-            {
+            if let Some(kind) = input_kind_of(alloc, others.as_slice()) {
                 return push_file_hint(text, kind, others.as_slice(), words[index]);
             }
         }
     }
     push_files_hint(alloc, words, text)
-}
-
-/// Returns whether the word at an index may be the name of a file: it is not an option, and it is
-/// the last word or has a full stop or a slash.
-fn may_be_file(words: &[&str], index: usize) -> bool {
-    match words.get(index) {
-        Some(word) => { !word.starts_with('-') && (index + 1 == words.len() || is_file_name(word)) }
-        None => false,
-    }
 }
 
 /// Returns whether a word is not an option and has a full stop or a slash, as names of files have.
@@ -64,12 +53,13 @@ fn without<'a>(alloc: Global, words: &[&'a str], index: usize) -> Result<Vec<&'a
     Ok(others)
 }
 
-/// Returns the kind of text that the request of these words reads, or `None` if they are no
-/// request.
+/// Returns the kind of text that the request of these words reads, or `None` if they are no request
+/// or it reads none.
 fn input_kind_of(alloc: Global, words: &[&str]) -> Option<InputKind> {
     match matches_of(alloc, words) {
         Ok(matches) => match matches.subcommand() {
             Some(("play" | "serve", _)) => Some(InputKind::Script),
+            Some(("store", _)) => None,
             Some(_) => Some(InputKind::Database),
             None => None,
         },

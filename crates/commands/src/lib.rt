@@ -11,12 +11,13 @@
 //! of a line), `lines` (the lines of a script), `text_form` (a text on the line or on those that
 //! follow), `offered_entry`, `node_question` (labels), `common_line`, `play_line`, `serve_line`
 //! and `session_line` (the request of a line), `session_texts` (where a text ends), `script` (all
-//! lines).
+//! lines), `bad_lines` (what is wrong with a line).
 //!
 //! In a clause `a.old` and `a.new` are a `&mut` argument before and after the call, `a.now` is what
 //! a shared reference refers to, and `a.entry` an owned argument as it is passed.
 #![tactic(auto)]
 
+mod bad_lines;
 mod command_line;
 mod common_line;
 mod grammar;
@@ -37,6 +38,7 @@ mod session_texts;
 mod text_form;
 mod weights;
 
+pub use bad_lines::ExpectedLine;
 pub use command_line::parse_command_line;
 pub use common_line::CommonLine;
 pub use grammar::VERSION;
@@ -50,7 +52,7 @@ pub use request::{
     ProofTextForm, Question, Request, ServeOptions, SiteRequest, WorkRequest,
 };
 pub use script::{LINE_FEED, Line, LineFault, ScriptFault, parse_script};
-pub use script_help::{SERVE_LINES_HELP, expected_form, first_word};
+pub use script_help::SERVE_LINES_HELP;
 pub use serve_line::ServeLine;
 pub use session_line::SessionLine;
 pub use session_texts::{TextEnd, text_end};

@@ -1,7 +1,8 @@
 //! Questions about a label in the library of a node.
-ghost use Rattle.std.specs.Prelude.{◌≡◌};
+ghost use Rattle.std.specs.Prelude.{◌≡◌, option_map};
 ghost use Rattle.commands.specs.Scripts.{Parses};
-ghost use Rattle.commands.specs.NodeQuestions.{label_question_kind_of, node_question_of};
+ghost use Rattle.commands.specs.NodeQuestions.{asked_of, label_question_kind_of, node_question_of};
+ghost use Rattle.commands.specs.NodeQuestions.{usage_of};
 
 use crate::line_words::Words;
 use crate::request::{ProofForm, ProofQuestion, Question};
@@ -20,6 +21,8 @@ pub enum LabelQuestionKind {
     Tree,
     /// `usage`: the `$p` whose proofs cite the statement.
     Usage,
+    /// `usage` with `all` after the label: the `$p` that use the statement, also indirectly.
+    UsageAll,
     /// `show`: the statement as a block of lines.
     Show,
     /// `proof`: the steps of the proof of the `$p`.
@@ -32,7 +35,7 @@ impl LabelQuestionKind {
         match self {
             LabelQuestionKind::Trace => b"trace",
             LabelQuestionKind::Tree => b"tree",
-            LabelQuestionKind::Usage => b"usage",
+            LabelQuestionKind::Usage | LabelQuestionKind::UsageAll => b"usage",
             LabelQuestionKind::Show => b"show",
             LabelQuestionKind::Proof => b"proof",
         }
@@ -51,6 +54,7 @@ impl LabelQuestionKind {
             LabelQuestionKind::Trace => Question::Trace(label),
             LabelQuestionKind::Tree => Question::Tree(label),
             LabelQuestionKind::Usage => Question::Usage { label, all: false },
+            LabelQuestionKind::UsageAll => Question::Usage { label, all: true },
             LabelQuestionKind::Show => {
                 let text = str::from_utf8(label).unwrap_or("");
                 Question::Show(Vec::from_slice(alloc, &[text])?)
@@ -91,7 +95,8 @@ pub(crate) fn label_question_kind(verb: &[u8]) -> Option<LabelQuestionKind>
     }
 }
 
-/// Parses `K LABEL`, the words after the verb, as a question of this kind.
+/// Parses `K LABEL`, the words after the verb, as a question of this kind. After the label of
+/// `usage` the word `all` may follow.
 pub(crate) fn parse_question(
     alloc: Global,
     kind: LabelQuestionKind,
@@ -100,9 +105,39 @@ pub(crate) fn parse_question(
     ensures { Parses (node_question_of kind words.entry) result }
 {
     let node = words.take_node().ok_or(LineFault::Bad)?;
-    let label = only_word(words).ok_or(LineFault::Bad)?;
+    let (kind, label) = asked(kind, words).ok_or(LineFault::Bad)?;
     let Ok(label) = Bytes::copy_from_slice(alloc, label) else {
         return Err(LineFault::Memory);
     };
     Ok(NodeQuestion { node, kind, label })
+}
+
+/// Returns the kind of a question of this kind or of one with `all`, and its label.
+fn asked<'a>(kind: LabelQuestionKind, words: Words<'a>) -> Option<(LabelQuestionKind, &'a [u8])>
+    ensures { option_map (λ a. (a.0, a.1.now)) result ≡ asked_of kind words.entry }
+{
+    match kind {
+        LabelQuestionKind::Usage => usage_asked(words),
+        _ => Some((kind, only_word(words)?)),
+    }
+}
+
+/// Returns the kind and the label of a question that `usage` asks by these words.
+fn usage_asked<'a>(mut words: Words<'a>) -> Option<(LabelQuestionKind, &'a [u8])>
+    ensures { option_map (λ a. (a.0, a.1.now)) result ≡ usage_of words.entry }
+{
+    let label = words.take()?;
+    if label.is_empty() {
+        return None;
+    }
+    match words.take() {
+        None => Some((LabelQuestionKind::Usage, label)),
+        Some(word) => {
+            if word == b"all".as_slice() && words.has_no_words() {
+                Some((LabelQuestionKind::UsageAll, label))
+            } else {
+                None
+            }
+        }
+    }
 }

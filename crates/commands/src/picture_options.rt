@@ -1,9 +1,11 @@
 //! The options of `play` for a picture.
-use crate::command_line::{invalid_value, number};
+use crate::command_line::{invalid_option, number};
 use crate::request::{CommandLineFault, PicturedSteps};
 use clap::ArgMatches;
 use std::alloc::Global;
-use timelines::MAX_ROWS;
+
+/// The greatest number of steps that a picture shows; `run_pictures` draws no more.
+const MAX_STEPS: u64 = 200;
 
 /// Returns which steps a picture shows, if one is asked for.
 pub(crate) fn pictured_steps(
@@ -25,7 +27,7 @@ fn first_step(alloc: Global, options: &ArgMatches) -> Result<u64, CommandLineFau
     }
     match number(options, "from") {
         Some(from) => Ok(from),
-        None => Err(invalid_value(alloc, "--from is a number")),
+        None => Err(invalid_option(alloc, "play", "--from is a number")),
     }
 }
 
@@ -35,7 +37,7 @@ fn step_count(alloc: Global, options: &ArgMatches) -> Result<Option<u64>, Comman
         return Ok(None);
     }
     match number(options, "events") {
-        Some(count) if 1 <= count && count <= MAX_ROWS => Ok(Some(count)),
-        _ => Err(invalid_value(alloc, "--events is a number from 1 to 200")),
+        Some(count) if 1 <= count && count <= MAX_STEPS => Ok(Some(count)),
+        _ => Err(invalid_option(alloc, "play", "--events is a number from 1 to 200")),
     }
 }

@@ -4,6 +4,7 @@ ghost use Rattle.commands.specs.Scripts.{Parses};
 ghost use Rattle.commands.specs.PlayLines.{line_or_common_line, play_line_of, play_text_form};
 ghost use Rattle.commands.specs.PlayLines.{play_only_line};
 
+use crate::bad_lines::ExpectedLine;
 use crate::common_line::{CommonLine, parse_common_line};
 use crate::line_words::Words;
 use crate::lines::Lines;
@@ -43,6 +44,10 @@ impl Line for PlayLine {
             }
             None => parse_without_text(alloc, verb, words),
         }
+    }
+
+    fn expected(line: &[u8], following: &[u8]) -> ExpectedLine {
+        ExpectedLine::of_play(line, following)
     }
 }
 

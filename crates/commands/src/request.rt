@@ -28,7 +28,11 @@ pub enum Request<'a> {
         steps: PicturedSteps,
     },
     /// `serve`: nodes that are threads carry out lines.
-    Serve(ServeOptions),
+    Serve(ServeOptions<'a>),
+    /// `store`: the nodes of a folder that nothing has open; its path.
+    Store {
+        folder: &'a str,
+    },
 }
 
 /// The nodes that `play` drives.
@@ -43,12 +47,15 @@ pub struct PlayOptions {
 
 /// The nodes that `serve` starts, and how it reads its lines.
 #[derive(Drop)]
-pub struct ServeOptions {
+pub struct ServeOptions<'a> {
     pub weights: Weights,
     /// The number of events that the nodes take.
     pub event_limit: u64,
     /// `--max-work`: the greatest work that an entry may count; `None` for no limit.
     pub work_limit: Option<u64>,
+    /// `--store`: the path of the folder in which the nodes keep what they promise and accept;
+    /// `None` for memory.
+    pub store: Option<&'a str>,
     /// How many threads read one entry and check its proofs.
     pub workers: WorkerCount,
     /// `--weather`: the seed of a generator that draws which packets are lost, repeated or delayed;
@@ -149,6 +156,8 @@ pub enum ProofForm {
     Page,
     /// The `$p` with its proof as text.
     Text(ProofTextForm),
+    /// `--so-far`: the steps up to the first fault, and the results on the stack.
+    SoFar,
 }
 
 /// The form of a proof as text.

@@ -2,6 +2,7 @@
 ghost use Rattle.std.specs.Prelude.{◌≡◌, ◌++◌, [], ◌∷◌, Option, IsTrue};
 ghost use Rattle.commands.specs.Scripts.{script_of, ParsesLine, ParsesScript};
 
+use crate::bad_lines::ExpectedLine;
 use crate::lines::Lines;
 use std::alloc::Global;
 
@@ -40,6 +41,9 @@ pub trait Line: Sized + Drop {
     /// `Memory` if an allocation fails.
     fn parse<'a>(alloc: Global, line: &'a [u8], lines: &mut Lines<'a>) -> Result<Self, LineFault>
         ensures { ParsesLine (by_definition line.now lines.old.lines) lines.old lines.new result };
+
+    /// Returns what may stand in place of a bad line. `following` are the bytes after the line.
+    fn expected(line: &[u8], following: &[u8]) -> ExpectedLine;
 }
 
 /// Parses the lines of a script. Each ends with a line feed, which the last may lack; empty ones

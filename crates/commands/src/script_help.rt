@@ -22,7 +22,7 @@ Lines, K a node from 0:
   state K                            print its role, promise and counts
   trace K LABEL                      print the axioms of a proof
   tree K LABEL                       print a derivation
-  usage K LABEL                      print who cites a statement
+  usage K LABEL [all]                print who cites a statement
   proof K LABEL                      print the steps of a proof
   show K LABEL                       print a statement
   compare J K                        print which library has more statements
@@ -39,6 +39,7 @@ Lines, K a node from 0:
   submit-lines K AUTHOR SERIAL WORD  the same, the lines up to WORD alone
   submit-bytes K AUTHOR SERIAL N     the same, the N bytes after the line
   charter K AUTHOR SERIAL NAME ..    submit a charter of authors
+  add-charter K AUTHOR SERIAL NAME ..  the same, until it is decided
   begin K                            begin a ballot
   restart K                          restart node K
   settle K AUTHOR SERIAL             wait for the verdict
@@ -50,34 +51,53 @@ Lines, K a node from 0:
   state K                            print its role, promise and counts
   trace K LABEL                      print the axioms of a proof
   tree K LABEL                       print a derivation
-  usage K LABEL                      print who cites a statement
+  usage K LABEL [all]                print who cites a statement
   proof K LABEL                      print the steps of a proof
   show K LABEL                       print a statement
   compare J K                        print which library has more statements
   events                             print the history, as lines of play
   health                             print the state of each node
+  store K                            print what node K keeps in its folder
 With --live also:
   help                               print these lines";
 
-/// The first words of the lines of a session.
-const SESSION_VERBS: &str = "add, add-lines, add-bytes, submit, submit-lines, submit-bytes, \
-    charter, begin, restart, settle, status, why, list, export, log, state, trace, tree, usage, \
-    proof, show, compare, events, health or help";
+/// The lines of a command: their help, and their first words.
+pub(crate) struct ScriptLines {
+    help: &'static str,
+    pub verbs: &'static str,
+}
 
-/// Returns the form of the line of a session that begins with a verb, or all verbs if none does.
-pub fn expected_form(verb: &[u8]) -> &'static str {
-    for line in SERVE_LINES_HELP.lines() {
-        if let Some(line) = line.strip_prefix("  ") {
-            let form = match line.split_once("  ") {
-                Some((form, _meaning)) => form,
-                None => line,
-            };
-            if first_word(form.as_bytes()) == verb {
-                return form;
+/// The lines of `play`.
+pub(crate) const PLAY_LINES: ScriptLines = ScriptLines {
+    help: PLAY_LINES_HELP,
+    verbs: "offer, offer-lines, offer-bytes, charter, begin, deliver, restart, apply, show, status, \
+        why, list, export, log, state, trace, tree, usage, proof, compare or events",
+};
+
+/// The lines of a session, of which a script has all but `help`.
+pub(crate) const SERVE_LINES: ScriptLines = ScriptLines {
+    help: SERVE_LINES_HELP,
+    verbs: "add, add-lines, add-bytes, submit, submit-lines, submit-bytes, charter, add-charter, \
+        begin, restart, settle, status, why, list, export, log, state, trace, tree, usage, proof, \
+        show, compare, events, health, store or help",
+};
+
+impl ScriptLines {
+    /// Returns the form of the line that begins with a verb, if one does.
+    pub fn form(&self, verb: &[u8]) -> Option<&'static str> {
+        for line in self.help.lines() {
+            if let Some(line) = line.strip_prefix("  ") {
+                let form = match line.split_once("  ") {
+                    Some((form, _meaning)) => form,
+                    None => line,
+                };
+                if first_word(form.as_bytes()) == verb {
+                    return Some(form);
+                }
             }
         }
+        None
     }
-    SESSION_VERBS
 }
 
 /// Returns the bytes before the first space.

@@ -1,14 +1,16 @@
 //! The lines of `serve`.
 ghost use Rattle.std.specs.Prelude.{◌≡◌};
 ghost use Rattle.commands.specs.Scripts.{Parses, ParsesLine};
-ghost use Rattle.commands.specs.ServeLines.{add_form, add_line_or_else, line_or_common_line};
+ghost use Rattle.commands.specs.ServeLines.{add_form, add_line_or_else, charter_line_or_else};
+ghost use Rattle.commands.specs.ServeLines.{line_or_common_line};
 ghost use Rattle.commands.specs.ServeLines.{serve_line_of};
 ghost use Rattle.commands.specs.ServeLines.{serve_only_line, submit_form};
 
+use crate::bad_lines::ExpectedLine;
 use crate::common_line::{CommonLine, parse_common_line};
 use crate::line_words::{NodeEntryId, Words};
 use crate::lines::Lines;
-use crate::offered_entry::{OfferedEntry, parse_text_offer};
+use crate::offered_entry::{OfferedEntry, parse_charter_offer, parse_text_offer};
 use crate::script::{Line, LineFault};
 use crate::text_form::{TextForm, form_of};
 use std::alloc::Global;
@@ -21,11 +23,13 @@ pub enum ServeLine {
     Common(CommonLine),
     /// `settle K AUTHOR SERIAL`: waits, up to a limit, for the verdict of the node's library.
     Settle(NodeEntryId),
-    /// `add`, `add-lines` and `add-bytes`: a text is submitted, again and again up to a limit,
-    /// until its verdict is known.
+    /// `add`, `add-lines`, `add-bytes` and `add-charter`: an entry is submitted, again and again up
+    /// to a limit, until its verdict is known.
     Add(OfferedEntry),
     /// `health`: the state of each node, and how many events are taken.
     Health,
+    /// `store K`: what node K keeps in its folder.
+    Store { node: u8 },
 }
 
 impl Line for ServeLine {
@@ -45,6 +49,10 @@ impl Line for ServeLine {
             }
             None => parse_add_or_else(alloc, verb, words, lines),
         }
+    }
+
+    fn expected(line: &[u8], following: &[u8]) -> ExpectedLine {
+        ExpectedLine::of_serve(line, following)
     }
 }
 
@@ -87,11 +95,26 @@ fn parse_add_or_else<'a>(
             let offered = parse_text_offer(alloc, form, words, lines)?;
             Ok(ServeLine::Add(offered))
         }
-        None => parse_without_text(alloc, verb, words),
+        None => parse_charter_or_else(alloc, verb, words),
     }
 }
 
-/// Parses the words after a verb that gives no text.
+/// Parses the words after a verb that gives no text: one that adds a charter, or another one.
+fn parse_charter_or_else(
+    alloc: Global,
+    verb: &[u8],
+    words: Words<'_>,
+) -> Result<ServeLine, LineFault>
+    ensures { Parses (charter_line_or_else verb.now words.entry) result }
+{
+    if verb == b"add-charter".as_slice() {
+        let offered = parse_charter_offer(alloc, words)?;
+        return Ok(ServeLine::Add(offered));
+    }
+    parse_without_text(alloc, verb, words)
+}
+
+/// Parses the words after a verb that gives no text and adds no charter.
 fn parse_without_text(alloc: Global, verb: &[u8], words: Words<'_>) -> Result<ServeLine, LineFault>
     ensures { Parses (line_or_common_line (serve_only_line verb.now words.entry) verb.now words.entry) result }
 {
@@ -107,8 +130,12 @@ fn parse_serve_only(verb: &[u8], words: Words<'_>) -> Option<ServeLine>
 {
     if verb == b"settle".as_slice() {
         Some(ServeLine::Settle(words.only_entry_id()?))
-    } else if verb == b"health".as_slice() && words.has_no_words() {
+    } else if verb == b"health".as_slice() && words.copy().has_no_words() {
         Some(ServeLine::Health)
+    } else if verb == b"store".as_slice() {
+        Some(ServeLine::Store {
+            node: words.only_node()?,
+        })
     } else {
         None
     }

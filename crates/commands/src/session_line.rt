@@ -1,6 +1,7 @@
 //! The lines of a session, which is `serve --live`.
 ghost use Rattle.commands.specs.SessionLines.{session_line_of};
 
+use crate::bad_lines::ExpectedLine;
 use crate::lines::Lines;
 use crate::script::{Line, LineFault};
 use crate::serve_line::ServeLine;
@@ -28,5 +29,9 @@ impl Line for SessionLine {
         }
         let line = ServeLine::parse(alloc, line, lines)?;
         Ok(SessionLine::Serve(line))
+    }
+
+    fn expected(line: &[u8], following: &[u8]) -> ExpectedLine {
+        ExpectedLine::of_serve(line, following)
     }
 }

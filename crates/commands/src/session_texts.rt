@@ -1,11 +1,12 @@
 //! The end of a text that a line of `serve` gives on the lines that follow it.
 ghost use Rattle.std.specs.Prelude.{◌≡◌, option_map};
-ghost use Rattle.commands.specs.SessionLines.{end_by, end_view, first_form, text_end_of};
+ghost use Rattle.commands.specs.SessionLines.{end_by, end_view, first_form, text_end_of, text_size};
 ghost use Rattle.commands.specs.ServeLines.{add_form, submit_form};
 
 use crate::line_words::Words;
 use crate::serve_line::{added_form, submitted_form};
 use crate::text_form::{TextForm, only_word};
+use library::MAX_BYTES;
 
 /// Where a text ends.
 #[derive(Clone, Copy, Debug, PartialEq, Eq)]
@@ -17,7 +18,8 @@ pub enum TextEnd<'a> {
 }
 
 /// Returns where the text of a line ends. Returns `None` if the line has no text on the lines that
-/// follow it, or is bad whatever lines follow. Does not allocate.
+/// follow it, or is bad whatever lines follow, or if its text would be too long for any library.
+/// Does not allocate.
 pub fn text_end(line: &[u8]) -> Option<TextEnd<'_>>
     ensures { option_map end_view result ≡ text_end_of line.now }
 {
@@ -45,6 +47,17 @@ fn end_of(form: TextForm, words: Words<'_>) -> Option<TextEnd<'_>>
     match form {
         TextForm::Rest => None,
         TextForm::Lines => Some(TextEnd::AtWord(only_word(words)?)),
-        TextForm::Bytes => Some(TextEnd::AfterBytes(words.only_number()?)),
+        TextForm::Bytes => Some(TextEnd::AfterBytes(text_size(words.only_number()?)?)),
+    }
+}
+
+/// Returns a number of bytes, if no text that has so many is too long.
+fn text_size(number: u64) -> Option<u64>
+    ensures { result ≡ text_size number }
+{
+    if number > MAX_BYTES as u64 {
+        None
+    } else {
+        Some(number)
     }
 }

@@ -1,6 +1,6 @@
 -- Statements in shared buffers: appending changes no statement, and the buffers can be truncated
 -- where a statement begins.
-use Rattle.entries.proofs.Words.{◌≡◌, ℕ, zero, suc, ◌<◌, ◌≤◌, List, [], ◌∷◌, ◌++◌, length, take, slice_get, slice_range, Some, refl, ◌⊎◌, ◌∙◌, ap, arith, inl, inr, same_Some, StatementRecord, BufferPart, Extends, end_by, groups_by, numbers_by, spans_by, bodies_of, AreKept}
+use Rattle.entries.proofs.Words.{◌≡◌, ℕ, zero, suc, ◌<◌, ◌≤◌, List, [], ◌∷◌, ◌++◌, length, take, slice_get, slice_range, Some, refl, ◌⊎◌, ◌∙◌, ap, arith, inl, inr, same_Some, StatementRecord, BufferPart, Extends, end_by, groups_by, numbers_by, spans_by, entries_of, AreKept}
 use Rattle.entries.proofs.SpanLemmas.{range-extends, extends-length}
 
 pub get-push : {A : Type 0} (xs : List A) (x y : A) (i : ℕ) → slice_get (xs ++ x ∷ []) i ≡ Some y → ((i < length xs) × (slice_get xs i ≡ Some y)) ⊎ ((i ≡ length xs) × (x ≡ y))
@@ -36,12 +36,12 @@ module _ (a b : List ℕ) (g h : List BufferPart) (s : StatementRecord) (ts : Li
   spans-same q rs le in_g = ap (slice_range h q.groups_from) (next-groups rs) ∙ range-extends g h q.groups_from (groups_by g (slice_get rs 0)) more_groups le in_g
 
   -- the longer buffers have the same statements
-  pub bodies-before : (rs : List StatementRecord) → AreKept a g rs → bodies_of b h (rs ++ s ∷ ts) ≡ bodies_of a g rs ++ bodies_of b h (s ∷ ts)
-  bodies-before [] k = refl
-  bodies-before (q ∷ rs) k =
+  pub entries-before : (rs : List StatementRecord) → AreKept a g rs → entries_of b h (rs ++ s ∷ ts) ≡ entries_of a g rs ++ entries_of b h (s ∷ ts)
+  entries-before [] k = refl
+  entries-before (q ∷ rs) k =
       let p = k.0.placed in let w = k.0.grouped in
       let e = run-same q rs p.from p.end in let f = spans-same q rs (omega arith) w.end in
-      let es = bodies-before rs k.1 in cc
+      let es = entries-before rs k.1 in cc
 
   -- the records fit the longer buffers, too
   pub kept-before : (rs : List StatementRecord) → AreKept a g rs → AreKept b h (s ∷ ts) → AreKept b h (rs ++ s ∷ ts)

@@ -1,11 +1,10 @@
 -- The definitions and lemmas of std and of the layers below that the proofs of this crate use,
 -- re-exported from one place.
 pub use Rattle.entries.specs.Entries.{AreShapedParts, Entry, assertion_of, entry_by}
-pub use Rattle.entries.specs.Stored.Records.{AreKept, ArePacked, Body, IsKept, IsOrdered, IsStored, bodies_of, body_of, counts_of, end_by, groups_by, has_parts, layout_in, record_by, numbers_by, numbers_of, spans_by, with_state_before, with_states_before}
+pub use Rattle.entries.specs.Stored.Records.{AreKept, ArePacked, IsKept, IsOrdered, IsStored, counts_of, end_by, entries_of, entry_of, groups_by, has_parts, layout_in, numbers_by, numbers_of, record_by, record_of, spans_by}
 pub use Rattle.entries.specs.Stored.Spans.{AreSpansIn, Extends, cut}
 pub use Rattle.entries.specs.declared.buffer_part.BufferPart.{BufferPart}
-pub use Rattle.entries.specs.declared.entry_header.StateBefore.{StateBefore}
-pub use Rattle.entries.specs.declared.kind.Kind.{Kind}
+pub use Rattle.entries.specs.declared.entry_header.EntryHeader.{EntryHeader}
 pub use Rattle.entries.specs.declared.layout.Layout.{Layout}
 pub use Rattle.entries.specs.declared.parts.AssertionParts.{AssertionParts}
 pub use Rattle.entries.specs.declared.statement_record.StatementRecord.{StatementRecord}
@@ -18,4 +17,4 @@ pub use Rattle.std.proofs.lemmas.List.Elements.{filter-append}
 pub use Rattle.std.proofs.lemmas.List.Sorted.{IsNonDecreasingBy-push, IsNonDecreasingBy-take, IsPartitionPoint-from_clause, IsPartitionedBy-ltb}
 pub use Rattle.std.proofs.lemmas.Option.{get_or_from_slice_get, same_Some, slice_get-map, slice_get_within}
 pub use Rattle.std.specs.List.Sorted.{IsNonDecreasingBy}
-pub use Rattle.std.specs.Prelude.{Bool, Err, List, None, Ok, OnErr, OnOk, Option, Result, [], drop, false, is_err, min, option_map, reverse, slice_range, suc, true, zero, ℕ, ◌++◌, ◌-◌, ◌<◌, ◌^◌, ◌∷◌, ◌≡◌, ◌≤◌, ◌⊎◌}
+pub use Rattle.std.specs.Prelude.{Bool, Err, List, None, Ok, OnErr, OnOk, Option, Result, [], drop, false, is_err, min, option_map, reverse, slice_range, suc, true, zero, ℕ, ◌++◌, ◌-◌, ◌<◌, ◌^◌, ◌||◌, ◌∷◌, ◌≡◌, ◌≤◌, ◌⊎◌}

@@ -13,11 +13,10 @@ use Rattle.entries.specs.declared.entry_header.EntryRef.{EntryRef}
 use Rattle.entries.specs.Hypotheses.{decoded_hypothesis}
 use Rattle.entries.specs.Stored.Spans.{cut, AreSpansIn}
 
--- the parts of a statement, which `frame` gives to assertions and `$e` alone: `hypotheses` are the
--- positions of its hypotheses, `numbered_hypotheses` each of them as a `$f` with its variable or a
--- `$e` with its position, `typecodes` the typecode of each, `groups` its mandatory pairs, as
--- lists of variables. They are `whole` if they are all mandatory hypotheses and pairs of an
--- assertion; else only the `$f` of the statement's own variables
+-- the parts of a statement: `hypotheses` are the positions of its hypotheses, `numbered_hypotheses`
+-- each of them as a `$f` with its variable or a `$e` with its position, `typecodes` the typecode of
+-- each, `groups` its mandatory pairs, as lists of variables. They are `whole` if they are all
+-- mandatory hypotheses and pairs of an assertion
 pub record Assertion : Type 0 where
   pub whole : Bool
   pub hypotheses : List ℕ

@@ -1,7 +1,6 @@
 //! The statements of a database as numbers, by position.
 ghost use Rattle.std.specs.Prelude.{◌≡◌, ◌≤◌, ◌<◌, ◌+◌, ◌^◌, ◌++◌, ◌∷◌, [], length, take};
-ghost use Rattle.std.specs.Prelude.{slice_get, Some, OnOk, OnErr, IfOk, IfSome, IfNone, true};
-ghost use Rattle.std.specs.Prelude.{false};
+ghost use Rattle.std.specs.Prelude.{slice_get, Some, OnOk, OnErr, IfOk, IfSome, IfNone, false};
 ghost use Rattle.entries.specs.Entries.{Entry, IsEntry, IsWholeView, AreShapedParts, assertion_of};
 ghost use Rattle.entries.specs.Entries.{entry_by};
 ghost use Rattle.entries.specs.Stored.Records.{IsPlaced, IsStored, has_parts, layout_in, record_of};
@@ -10,7 +9,7 @@ ghost use Rattle.entries.specs.Stored.Spans.{Extends};
 
 use crate::assertion_view::{AssertionView, Hypotheses};
 use crate::buffer_part::{BufferPart, item, part, to_u32};
-use crate::entry_header::{EntryHeader, EntryRef, StateBefore};
+use crate::entry_header::{EntryHeader, EntryRef};
 use crate::groups::Groups;
 use crate::layout::{Layout, assertion_layout, counts, layout_by_counts};
 use crate::parts::AssertionParts;
@@ -22,37 +21,35 @@ use std::marker::Model;
 /// Statements as numbers. Contracts see the list of them, with plain lists for their parts.
 ///
 /// Inside, a statement is one small record, and the numbers of all statements are in one buffer, so
-/// that a citation reads contiguous memory. Groups, which few assertions have, and the states
-/// before the statements, which no citation reads, have buffers of their own.
+/// that a citation reads contiguous memory. Groups, which few assertions have, have a buffer of
+/// their own.
 #[derive(Drop)]
 pub struct Entries {
     records: Vec<StatementRecord>,
-    states_before: Vec<StateBefore>,
     numbers: Vec<u32>,
     groups: Vec<BufferPart>,
 }
 
-/// The stored form of one statement: its record, the state before it, its numbers, the layout of
-/// its parts among them, and its groups. No part is read before it is used.
+/// The stored form of one statement: its record, its numbers, the layout of its parts among them,
+/// and its groups. No part is read before it is used.
 #[derive(Clone, Copy, Drop)]
 struct Stored<'a> {
     statement_record: StatementRecord,
-    before: StateBefore,
     numbers: &'a [u32],
     layout: Layout,
     groups: &'a [BufferPart],
 }
 
 impl Model for Entries {
-    ghost use Rattle.std.specs.Prelude.{List, length, ◌≡◌};
+    ghost use Rattle.std.specs.Prelude.{List};
     ghost use Rattle.entries.specs.Entries.{Entry};
-    ghost use Rattle.entries.specs.Stored.Records.{bodies_of, with_states_before, ArePacked};
+    ghost use Rattle.entries.specs.Stored.Records.{entries_of, ArePacked};
 
     ghost Value = { List Entry };
 
-    ghost view = { λ a. with_states_before (bodies_of a.numbers.items a.groups.items a.records.items) a.states_before.items };
+    ghost view = { λ a. entries_of a.numbers.items a.groups.items a.records.items };
 
-    ghost invariant = { λ a. ArePacked a.numbers.items a.groups.items a.records.items × (length a.states_before.items ≡ length a.records.items) };
+    ghost invariant = { λ a. ArePacked a.numbers.items a.groups.items a.records.items };
 }
 
 impl Entries {
@@ -62,7 +59,6 @@ impl Entries {
     {
         Entries {
             records: Vec::new(alloc),
-            states_before: Vec::new(alloc),
             numbers: Vec::new(alloc),
             groups: Vec::new(alloc),
         }
@@ -86,15 +82,14 @@ impl Entries {
     {
         let Stored {
             statement_record,
-            before,
             numbers,
             layout,
             ..
         } = self.stored(index);
         EntryRef {
             kind: statement_record.kind,
-            size: statement_record.size,
-            before,
+            size: layout.size,
+            before: statement_record.before,
             symbols: part(numbers, layout.symbols, layout.hypotheses),
         }
     }
@@ -156,10 +151,8 @@ impl Entries {
         let (numbers, layout) = numbers_at(&self.records, &self.numbers, index, statement_record);
         let from = statement_record.groups_from as usize;
         let groups = part(&self.groups, from, from + layout.group_count);
-        let before = item(&self.states_before, index);
         Stored {
             statement_record,
-            before,
             numbers,
             layout,
             groups,
@@ -188,14 +181,12 @@ impl Entries {
         let groups = self.groups.len();
         let added = add(
             &mut self.records,
-            &mut self.states_before,
             &mut self.numbers,
             &mut self.groups,
             header,
             parts,
         );
         if added.is_err() {
-            self.states_before.truncate(count);
             self.numbers.truncate(from);
             self.groups.truncate(groups);
         }
@@ -211,7 +202,6 @@ impl Entries {
             self.numbers.truncate(first.from as usize);
             self.groups.truncate(first.groups_from as usize);
             self.records.truncate(len);
-            self.states_before.truncate(len);
         }
     }
 
@@ -220,7 +210,6 @@ impl Entries {
         ensures { self.new ≡ self.old }
     {
         give_back(&mut self.records);
-        give_back(&mut self.states_before);
         give_back(&mut self.numbers);
         give_back(&mut self.groups);
     }
@@ -252,64 +241,74 @@ fn numbers_at<'a>(
     let from = statement_record.from as usize;
     (
         part(numbers, from, end),
-        layout_by_counts(0, 0, end - from, 0, 0),
+        layout_by_counts(0, 0, end - from, 0, 0, 0),
     )
 }
 
-/// Appends a statement's groups, numbers, state before it and record. If it fails, `records` is
-/// unchanged, but the other buffers may have more items.
+/// Appends a statement's groups, numbers and record. If it fails, `records` is unchanged, but the
+/// other buffers may have more items.
 fn add(
     records: &mut Vec<StatementRecord>,
-    states_before: &mut Vec<StateBefore>,
     numbers: &mut Vec<u32>,
     groups: &mut Vec<BufferPart>,
     header: EntryHeader,
     parts: &AssertionParts<'_>,
 ) -> Result<(), AllocError>
-    ensures added { OnOk result (numbers.new.items ≡ numbers.old.items ++ numbers_of (has_parts parts.now) parts.now) }
+    ensures added { OnOk result
+        (numbers.new.items ≡ numbers.old.items
+        ++ numbers_of (has_parts header.size parts.now) header.size parts.now) }
     ensures groups { OnOk result (groups.new.items ≡ groups.old.items ++ parts.now.groups.now) }
     ensures last { OnOk result
         (records.new.items ≡ records.old.items
         ++ record_of header parts.now (length numbers.old.items) (length groups.old.items) ∷ []) }
-    ensures state_before { OnOk result (states_before.new.items ≡ states_before.old.items ++ header.before ∷ []) }
     ensures same { OnErr result (records.new.items ≡ records.old.items) }
-    ensures more_states_before { Extends states_before.old.items states_before.new.items }
     ensures more { Extends numbers.old.items numbers.new.items }
     ensures more_groups { Extends groups.old.items groups.new.items }
 {
     let from = to_u32(numbers.len())?;
-    let first = to_u32(groups.len())?;
-    let has_parts = parts.hypotheses.len() + parts.groups.len() > 0;
+    let groups_from = to_u32(groups.len())?;
+    let has_parts = has_parts(header.size, parts);
     append(groups, parts.groups)?;
-    add_numbers(numbers, parts, has_parts)?;
-    append(states_before, &[header.before])?;
-    append(
-        records,
-        &[StatementRecord {
-            size: header.size,
-            from,
-            groups_from: first,
-            kind: header.kind,
-            has_parts,
-            whole: parts.whole,
-        }],
-    )
+    add_numbers(numbers, header.size, parts, has_parts)?;
+    if records.len() == records.capacity() {
+        reserve_ahead(records);
+    }
+    records.push(StatementRecord {
+        from,
+        kind: header.kind,
+        has_parts,
+        whole: parts.whole,
+        groups_from,
+        before: header.before,
+    })?;
+    Ok(())
+}
+
+/// Returns whether a statement is stored with parts.
+fn has_parts(size: u64, parts: &AssertionParts<'_>) -> bool
+    ensures { result ≡ has_parts size parts.now }
+{
+    if size > 0 {
+        return true;
+    }
+    parts.hypotheses.len() + parts.groups.len() > 0
 }
 
 /// Appends the numbers of a statement: its counts, parts and symbols if it has parts, else its
 /// symbols alone.
 fn add_numbers(
     numbers: &mut Vec<u32>,
+    size: u64,
     parts: &AssertionParts<'_>,
     has_parts: bool,
 ) -> Result<(), AllocError>
-    ensures added { OnOk result (numbers.new.items ≡ numbers.old.items ++ numbers_of has_parts parts.now) }
+    ensures added { OnOk result (numbers.new.items ≡ numbers.old.items ++ numbers_of has_parts size parts.now) }
     ensures more { Extends numbers.old.items numbers.new.items }
 {
     if !has_parts {
         return append(numbers, parts.symbols);
     }
-    append_both(numbers, &counts(parts)?, parts.typecodes)?;
+    append_both(numbers, &counts(size, parts)?, parts.typecodes)?;
     append_both(numbers, parts.numbered_hypotheses, parts.symbols)?;
     append_both(numbers, parts.hypotheses, parts.grouped_variables)
 }

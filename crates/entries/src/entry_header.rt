@@ -1,5 +1,4 @@
-//! The kind and the size of a statement and the state before it, which are stored apart from its
-//! parts.
+//! The kind and the size of a statement and the state before it.
 use crate::kind::Kind;
 use crate::last_active::LastActive;
 

@@ -8,11 +8,15 @@ use crate::parts::AssertionParts;
 use std::alloc::AllocError;
 
 /// How many numbers precede the parts of an assertion: the four counts of its hypotheses, its
-/// symbols, its groups and the variables of its groups.
-pub const COUNTS: usize = 4;
+/// symbols, its groups and the variables of its groups, and the lower and the upper half of its
+/// size.
+pub const COUNTS: usize = 6;
+
+/// How many numbers of 32 bits there are.
+const HALVES: u64 = 4294967296;
 
 /// Where each part of a statement begins among its numbers, and where the last part ends. Each part
-/// ends where the next one begins.
+/// ends where the next one begins. Also what the counts before the parts say of no part.
 #[derive(Clone, Copy, Drop)]
 pub struct Layout {
     /// The typecodes of its hypotheses.
@@ -29,10 +33,13 @@ pub struct Layout {
     pub end: usize,
     /// How many groups it has.
     pub group_count: usize,
+    /// Its size, as `EntryHeader` says.
+    pub size: u64,
 }
 
 /// Returns the layout of `count` hypotheses, `symbols` symbols, `group_count` groups and
-/// `grouped_variables` variables of groups, the first part of which begins at `typecodes`.
+/// `grouped_variables` variables of groups, the first part of which begins at `typecodes`, for a
+/// statement of this size.
 #[inline(always)]
 pub fn layout_by_counts(
     typecodes: usize,
@@ -40,9 +47,10 @@ pub fn layout_by_counts(
     symbols: usize,
     group_count: usize,
     grouped_variables: usize,
+    size: u64,
 ) -> Layout
-    requires { (layout_of_counts typecodes count symbols group_count grouped_variables).end < 2 ^ 64 }
-    ensures { result ≡ layout_of_counts typecodes count symbols group_count grouped_variables }
+    requires { (layout_of_counts typecodes count symbols group_count grouped_variables size).end < 2 ^ 64 }
+    ensures { result ≡ layout_of_counts typecodes count symbols group_count grouped_variables size }
 {
     let numbered_hypotheses = typecodes + count;
     let hypotheses = numbered_hypotheses + count + symbols;
@@ -54,6 +62,7 @@ pub fn layout_by_counts(
         grouped_variables: hypotheses + count,
         end: hypotheses + count + grouped_variables,
         group_count,
+        size,
     }
 }
 
@@ -69,17 +78,20 @@ pub fn assertion_layout(numbers: &[u32]) -> Layout
         item(numbers, 1) as usize,
         item(numbers, 2) as usize,
         item(numbers, 3) as usize,
+        item(numbers, 4) as u64 + item(numbers, 5) as u64 * HALVES,
     )
 }
 
-/// Returns the counts that precede the parts.
-pub fn counts(parts: &AssertionParts<'_>) -> Result<[u32; COUNTS], AllocError>
-    ensures { IfOk result (λ counts. counts ≡ counts_of parts.now) }
+/// Returns the numbers that precede the parts of a statement of this size.
+pub fn counts(size: u64, parts: &AssertionParts<'_>) -> Result<[u32; COUNTS], AllocError>
+    ensures { IfOk result (λ counts. counts ≡ counts_of size parts.now) }
 {
     Ok([
         to_u32(parts.hypotheses.len())?,
         to_u32(parts.symbols.len())?,
         to_u32(parts.groups.len())?,
         to_u32(parts.grouped_variables.len())?,
+        (size % HALVES) as u32,
+        (size / HALVES) as u32,
     ])
 }

@@ -2,12 +2,10 @@
 use crate::buffer_part::BufferPart;
 
 /// The symbols of a statement to be appended, and its parts: hypotheses, their typecodes, and
-/// groups of variables, which are its mandatory pairs as lists. `frame` gives parts to assertions
-/// and `$e` alone.
+/// groups of variables, which are its mandatory pairs as lists.
 #[derive(Clone, Copy, Drop)]
 pub struct AssertionParts<'a> {
-    /// Whether the parts are whole: all mandatory hypotheses and pairs of an assertion. Else they
-    /// are only the `$f` of the statement's own variables, if any.
+    /// Whether the parts are whole: all mandatory hypotheses and pairs of an assertion.
     pub whole: bool,
     /// The numbers of its symbols.
     pub symbols: &'a [u32],

@@ -171,24 +171,6 @@ pub record AreWritten (events : List (Event Carried)) (text : List ℕ) : Type 0
   pub lines : text ≡ lines_of_events events
   pub fit : AllByRecursion EventIsInRange events
 
-fit_more : (es : List (Event Carried)) (e : Event Carried) → AllByRecursion EventIsInRange es → EventIsInRange e → AllByRecursion EventIsInRange (es ++ e ∷ [])
-fit_more [] e none fits = (fits, tt)
-fit_more (x ∷ es) e (first, others) fits = (first, fit_more es e others fits)
-
-text_more : (es : List (Event Carried)) (e : Event Carried) → lines_of_events (es ++ e ∷ []) ≡ lines_of_events es ++ lines_of_event e
-text_more [] e = append-nil (lines_of_event e)
-text_more (x ∷ es) e = ap (λ l. lines_of_event x ++ l) (text_more es e) ∙ sym (append_assoc (lines_of_event x) (lines_of_events es) (lines_of_event e))
-
--- one more event
-pub written_more : (es now : List (Event Carried)) (text next : List ℕ) (e : Event Carried) → now ≡ es ++ e ∷ [] → AreWritten es text
-    → next ≡ text ++ lines_of_event e → EventIsInRange e → AreWritten now next
-written_more es now text next e more so appended fits =
-    let P : List (Event Carried) → Type 0 = λ l. AreWritten l next in
-    subst P (sym more) (record {
-      lines = appended ∙ (ap (λ t. t ++ lines_of_event e) so.lines ∙ sym (text_more es e));
-      fit = fit_more es e so.fit fits;
-    })
-
 -- the text of all events is parsed as their lines
 pub written_parses : (es : List (Event Carried)) (text : List ℕ) → AreWritten es text → script_of play_line_of text ≡ Ok (map play_line_of_event es)
 written_parses es text so = ap (script_of play_line_of) so.lines ∙ events_parse es so.fit

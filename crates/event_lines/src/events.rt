@@ -14,11 +14,8 @@ use std::alloc::{AllocError, Global};
 use text::push_number;
 use world::Carried;
 
-/// Returns the lines of `play` for the events, in order. Each event is one line, except that a text
-/// with a line feed is offered by a line `offer-bytes` and the bytes after it.
-///
-/// Errors: an allocation fails. Cost: the size of the lines.
-pub fn event_lines(alloc: Global, events: &[Event<Carried>]) -> Result<Vec<u8>, AllocError>
+/// Returns the lines of `play` for the events, in order.
+fn event_lines(alloc: Global, events: &[Event<Carried>]) -> Result<Vec<u8>, AllocError>
     ensures text { IfOk result (λ text. text.items ≡ lines_of_events events.now) }
     ensures parses { IfOk result
         (λ text. script_of play_line_of text.items ≡ Ok (map play_line_of_event events.now)) }
@@ -30,16 +27,20 @@ pub fn event_lines(alloc: Global, events: &[Event<Carried>]) -> Result<Vec<u8>, 
     Ok(text)
 }
 
-/// Appends a line `events N` and the lines of the events. N is the number of their line feeds,
-/// those in offered texts included.
+/// Appends a line `events N` and the lines of `play` for the events, in order: those lines alone are
+/// a script that is parsed as these events (`parses`). Each event is one line, except that a text
+/// with a line feed is offered by a line `offer-bytes` and the bytes after it. N is the number of
+/// line feeds after the first line, those in offered texts included.
 ///
-/// Errors: an allocation fails. Cost: the size of the lines.
+/// Errors: an allocation fails; the text is then unspecified. Cost: the size of the lines.
 pub fn push_events(
     alloc: Global,
     text: &mut Vec<u8>,
     events: &[Event<Carried>],
 ) -> Result<(), AllocError>
-    ensures { OnOk result (text.new.items ≡ text.old.items ++ counted_event_lines events.now) }
+    ensures text { OnOk result (text.new.items ≡ text.old.items ++ counted_event_lines events.now) }
+    ensures parses { OnOk result
+        (script_of play_line_of (lines_of_events events.now) ≡ Ok (map play_line_of_event events.now)) }
 {
     let lines = event_lines(alloc, events)?;
     text.extend_from_slice(b"events ")?;

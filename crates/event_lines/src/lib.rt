@@ -1,10 +1,9 @@
 //! The history of a run as a script of `play`, which has a line for each event. The bytes of an
 //! offered text that has a line feed follow its line.
 //!
-//! The main contract: the text of `event_lines` is parsed as exactly the lines of `play` for these
-//! events, in order. `program` uses `push_events`, which appends a line `events N` and then this
-//! text to an answer, where N is the count of its line feeds. `Carried` is an offered entry as a
-//! value that packets carry.
+//! The main contract: `push_events` appends a line `events N` and then N lines to an answer, which
+//! are parsed as exactly the lines of `play` for these events, in order. `Carried` is an offered
+//! entry as a value that packets carry.
 //!
 //! In a clause `text.old` and `text.new` are the text before and after the call, `a.now` is what a
 //! shared reference `a` refers to, `text.items` are the bytes of a vector, `OnOk result P` says P
@@ -14,4 +13,4 @@
 mod events;
 mod offers;
 
-pub use events::{event_lines, push_events};
+pub use events::push_events;

@@ -9,6 +9,9 @@ use explain::{CodeBreak, LetterFault};
 use mm_lex::Words;
 use proof_code::is_compressed;
 
+/// The message for letters U to Y that no letter A to T ends.
+const NOT_ENDED: &[u8] = b"a number is not ended: no letter A to T ends these letters U to Y";
+
 /// Writes the rule that the tokens break, and where.
 pub(crate) fn explain_break(lines: &mut Lines<'_>, theorem: &Theorem<'_>, broken: CodeBreak) {
     let proof = theorem.proof;
@@ -33,12 +36,11 @@ pub(crate) fn explain_break(lines: &mut Lines<'_>, theorem: &Theorem<'_>, broken
             };
             push_unreadable_with(lines, theorem, end, b"no ) stands behind the listed labels");
         }
-        CodeBreak::Letters(broken) => push_unreadable_with(
-            lines,
-            theorem,
-            letter_spot(proof, broken.letter),
-            letters_message(broken.fault),
-        ),
+        CodeBreak::Letters(broken) => {
+            let spot = letter_spot(proof, broken.letter);
+            let message = letters_message(proof, spot, broken.fault);
+            push_unreadable_with(lines, theorem, spot, message);
+        }
     }
 }
 
@@ -73,12 +75,33 @@ fn not_a_label_message(proof: &Words) -> &'static [u8] {
     }
 }
 
-/// Returns the message for a fault of the letters.
-fn letters_message(fault: LetterFault) -> &'static [u8] {
+/// Returns the message for a fault of the letters at a spot. A number that is not ended is named so
+/// even if every number that begins like it is too great.
+fn letters_message(proof: &Words, spot: Spot, fault: LetterFault) -> &'static [u8] {
     match fault {
         LetterFault::NotLetter => b"this is no letter of a compressed proof",
-        LetterFault::NotEnded => b"no letter A to T ends these letters U to Y",
+        LetterFault::NotEnded => NOT_ENDED,
+        LetterFault::TooGreat if is_unended(proof, spot) => NOT_ENDED,
         LetterFault::EarlyMark => b"this Z marks a result, and none stands before it",
         LetterFault::TooGreat => b"this number is greater than all labels and marks have",
     }
+}
+
+/// Returns whether the letters from a spot to the end of the proof are all U to Y.
+fn is_unended(proof: &Words, spot: Spot) -> bool {
+    let mut token = 0usize;
+    let mut rest = proof.iter();
+    while let Some(letters) = rest.next() {
+        let first = if token == spot.token { spot.byte } else { 0 };
+        if token >= spot.token
+            && letters
+                .iter()
+                .skip(first)
+                .any(|letter| *letter < b'U' || *letter > b'Y')
+        {
+            return false;
+        }
+        token = token.saturating_add(1);
+    }
+    true
 }

@@ -46,3 +46,11 @@ fn push_cut(lines: &mut Lines<'_>, len: usize) {
     lines.push_number(len);
     lines.push(b" symbols)");
 }
+
+/// Returns the expression of the statement at a position, or an empty one if there is none.
+pub(crate) fn expr_at(frames: &Frames, at: usize) -> &[u32] {
+    if at == 0 || at > frames.len() {
+        return &[];
+    }
+    frames.expr(at)
+}

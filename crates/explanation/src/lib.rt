@@ -8,7 +8,7 @@
 //!
 //! Reading order: `explained_refusal`, `written_lines`, `text_fault`, `shape_fault`, `broken_rule`
 //! with `statement_symbols`; `limited_library`; `proof` with `text_tokens`, `theorem`,
-//! `item_spots`, `step_fault`, `expressions` and `code_break`.
+//! `item_spots`, `step_fault`, `expressions`, `code_break`, `missing_pairs` and `stack`.
 #![tactic(auto)]
 
 mod broken_rule;
@@ -17,8 +17,10 @@ mod explained_refusal;
 mod expressions;
 mod item_spots;
 mod limited_library;
+mod missing_pairs;
 mod proof;
 mod shape_fault;
+mod stack;
 mod statement_symbols;
 mod step_fault;
 mod text_fault;
@@ -27,5 +29,6 @@ mod theorem;
 mod written_lines;
 
 pub use explained_refusal::{DatabaseFault, explain_after, explain_refusal, explain_unproved};
+pub use stack::items_so_far;
 pub use text_tokens::TextTokens;
 pub use written_lines::MAX_BYTES;

@@ -9,8 +9,10 @@ ghost use Rattle.mm_read.specs.Statements.{AreShaped};
 ghost use Rattle.verify.specs.Right.{IsProvable};
 
 use crate::code_break::explain_break;
-use crate::expressions::{push_excerpt, push_expression};
+use crate::expressions::{expr_at, push_excerpt, push_expression};
 use crate::item_spots::{spot_of, step_of};
+use crate::missing_pairs::push_missing_pairs;
+use crate::stack::{push_stack, push_stack_before};
 use crate::statement_symbols::token_at;
 use crate::step_fault::push_fault;
 use crate::text_tokens::TextTokens;
@@ -83,6 +85,7 @@ fn explain_theorem(alloc: Global, lines: &mut Lines<'_>, frames: &Frames, theore
     let why = explain(alloc, frames, theorem.at, theorem.proof);
     if let Some(Some(why)) = lines.ok_or_fail(why) {
         explain_why(lines, frames, theorem, &why);
+        explain_state(alloc, lines, frames, theorem, &why);
     }
 }
 
@@ -93,6 +96,33 @@ fn explain_why(lines: &mut Lines<'_>, frames: &Frames, theorem: &Theorem<'_>, wh
         WhyUnproved::Run { items, reason } => {
             explain_reason(lines, frames, theorem, items, reason);
         }
+    }
+}
+
+/// Writes which `$d` the proof lacks if it violates the disjoint variable condition, and the last
+/// results before the fault.
+fn explain_state(
+    alloc: Global,
+    lines: &mut Lines<'_>,
+    frames: &Frames,
+    theorem: &Theorem<'_>,
+    why: &WhyUnproved,
+)
+    requires { (s : Statement) × IsProvable frames.now.statements theorem.now.at s }
+{
+    match why {
+        WhyUnproved::Code(broken) => push_stack_before(alloc, lines, frames, theorem, *broken),
+        WhyUnproved::Run { items, reason } => match reason {
+            Reason::Item { fault, .. } => {
+                if matches!(fault, ItemFault::NotDisjoint { .. }) {
+                    push_missing_pairs(alloc, lines, frames, theorem.at, items);
+                }
+                push_stack(alloc, lines, frames, theorem.at, items);
+            }
+            Reason::ResultCount { .. } => push_stack(alloc, lines, frames, theorem.at, items),
+            // The only result is told already.
+            Reason::OtherTheorem { .. } => {}
+        },
     }
 }
 
@@ -150,14 +180,6 @@ fn explain_other_theorem(
     lines.push(b" says");
     push_expression(lines, frames, expr_at(frames, theorem.at));
     lines.push(b"\n");
-}
-
-/// Returns the expression of the statement at a position, or an empty one if there is none.
-fn expr_at(frames: &Frames, at: usize) -> &[u32] {
-    if at == 0 || at > frames.len() {
-        return &[];
-    }
-    frames.expr(at)
 }
 
 /// Writes the step number of the item, and that it marks a result, recalls one, or cites a label,

@@ -1,14 +1,15 @@
 //! A text with the spans of its tokens.
 ghost use Rattle.std.specs.Prelude.{◌≡◌, IfOk};
-ghost use Rattle.std.specs.List.{All};
-ghost use Rattle.mm_lex.specs.Tokens.{IsWordAt};
+ghost use Rattle.mm_lex.specs.Tokens.{AreTokens};
+ghost use Rattle.places.specs.TokenSpans.{counted_token};
+ghost use Rattle.explanation.specs.TokenPlaces.{start_or_end};
 
 use mm_lex::{LexFault, Span, tokens};
 use places::token_span_within;
 use std::alloc::Global;
 use std::marker::Model;
 
-/// A text with the spans of its tokens. Contracts see only the bytes of the text.
+/// A text with the spans of its tokens.
 #[derive(Drop)]
 pub struct TextTokens<'a> {
     text: &'a [u8],
@@ -16,13 +17,13 @@ pub struct TextTokens<'a> {
 }
 
 impl<'a> Model for TextTokens<'a> {
-    ghost use Rattle.std.specs.Prelude.{ℕ, List};
     ghost use Rattle.std.specs.List.{All};
     ghost use Rattle.mm_lex.specs.Tokens.{IsWordAt};
+    ghost use Rattle.explanation.specs.TokenPlaces.{SplitText};
 
-    ghost Value = { List ℕ };
+    ghost Value = { SplitText };
 
-    ghost view = { λ a. a.text.now };
+    ghost view = { λ a. record { text = a.text.now; spans = a.spans.items } };
 
     ghost invariant = { λ a. All (IsWordAt a.text.now) a.spans.items };
 }
@@ -33,7 +34,8 @@ impl<'a> TextTokens<'a> {
     /// Errors: the bytes or comments of the text are faulty, or an allocation fails. Cost: linear
     /// in the text.
     pub fn new(alloc: Global, text: &'a [u8]) -> Result<TextTokens<'a>, LexFault>
-        ensures { IfOk result (λ tokens. tokens ≡ text.now) }
+        ensures text { IfOk result (λ tokens. tokens.text ≡ text.now) }
+        ensures tokens { IfOk result (λ tokens. AreTokens text.now tokens.spans) }
     {
         let spans = tokens(alloc, text)?;
         Ok(TextTokens { text, spans })
@@ -41,20 +43,35 @@ impl<'a> TextTokens<'a> {
 
     /// Returns the text.
     pub(crate) fn text(&self) -> &'a [u8]
-        ensures { result.now ≡ self.now }
+        ensures { result.now ≡ self.now.text }
     {
         self.text
     }
 
     /// Returns the offset at which a token of a statement begins, or the end of the text if there
-    /// is no such token. The statement and the token are counted from 1.
-    pub(crate) fn start_of(&self, statement: usize, token: usize) -> usize {
-        if statement == 0 || token == 0 {
-            return self.text.len();
-        }
-        match token_span_within(self.text, self.spans.as_slice(), statement, token) {
+    /// is no such token. The statement and the token are counted from 1, as by
+    /// `places::token_span`.
+    pub(crate) fn start_of(&self, statement: usize, token: usize) -> usize
+        ensures { result
+            ≡ start_or_end self.now.text (counted_token self.now.text self.now.spans statement token) }
+    {
+        match self.span_of(statement, token) {
             Some(span) => span.start,
             None => self.text.len(),
         }
+    }
+
+    /// Returns the span of a token of a statement, if there is one.
+    #[tactic(auto, using(places::proofs::TokenSpanLemmas::statement_zero, places::proofs::TokenSpanLemmas::token_zero, places::proofs::TokenSpanLemmas::counted_is))]
+    fn span_of(&self, statement: usize, token: usize) -> Option<Span>
+        ensures { result ≡ counted_token self.now.text self.now.spans statement token }
+    {
+        if statement == 0 {
+            return None;
+        }
+        if token == 0 {
+            return None;
+        }
+        token_span_within(self.text, self.spans.as_slice(), statement, token)
     }
 }

@@ -1,6 +1,7 @@
 //! The lines of an explanation.
 
-ghost use Rattle.std.specs.Prelude.{◌≤◌, length, IfOk};
+ghost use Rattle.std.specs.Prelude.{◌≡◌, ◌<◌, ◌≤◌, length, IfOk};
+ghost use Rattle.explanation.specs.Cut.{cut_text};
 
 use itoa::Buffer;
 use mm_lex::Span;
@@ -43,7 +44,11 @@ impl<'a> Lines<'a> {
     ///
     /// Errors: a failure was recorded, or an allocation fails.
     pub(crate) fn into_bytes(self) -> Result<Vec<u8>, AllocError>
-        ensures { IfOk result (λ bytes. length bytes.items ≤ MAX_BYTES) }
+        ensures short { IfOk result (λ bytes. length bytes.items ≤ MAX_BYTES) }
+        ensures whole { length self.entry.bytes.items ≤ 65536
+            → IfOk result (λ bytes. bytes.items ≡ self.entry.bytes.items) }
+        ensures cut { 65536 < length self.entry.bytes.items
+            → IfOk result (λ bytes. bytes.items ≡ cut_text self.entry.bytes.items) }
     {
         let Lines {
             mut bytes,

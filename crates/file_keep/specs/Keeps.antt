@@ -11,11 +11,13 @@ use Rattle.file_keep.specs.declared.file_keep.Standing.TheVariants.{Settled, Wri
 use Rattle.synod.specs.declared.change.Change.TheVariants.{Round, Promise, Entry}
 
 -- A keep as contracts see it: its store; its content, which is the record that it has in memory;
--- whether the last commit says it; and how many of the keep's calls failed.
+-- whether the last commit says it, and whether the transaction does; and how many of the keep's
+-- calls failed.
 pub record KeepView (V S : Type 0) : Type 0 where
   pub store : S
   pub content : Content V
   pub is_settled : Bool
+  pub is_written : Bool
   pub failures : ℕ
 
 -- a keep with a witness: the keep, the number of changes that the witness tells, and how often a
@@ -101,6 +103,6 @@ IsWritten view columns keep = IsClean (view keep.store) → Says columns (view k
 abbrev pub LeavesOr : {V S : Type 0} → (S → View) → (S → Trees → Type 0) → (V → List Value) → S → S → Content V → Type 0
 LeavesOr view recovers columns old new content = IsClean (view new) → (db : Trees) → recovers new db → Says columns db content ⊎ recovers old db
 
--- the same, or the content before the call
-abbrev pub LeavesEither : {V S : Type 0} → (S → View) → (S → Trees → Type 0) → (V → List Value) → S → S → Content V → Content V → Type 0
-LeavesEither view recovers columns old new before after = IsClean (view new) → (db : Trees) → recovers new db → Says columns db after ⊎ (Says columns db before ⊎ recovers old db)
+-- after a call a crash leaves only what it might have left before the call
+abbrev pub LeavesNothingNew : {S : Type 0} → (S → Trees → Type 0) → S → S → Type 0
+LeavesNothingNew recovers old new = (db : Trees) → recovers new db → recovers old db

@@ -1,6 +1,6 @@
 -- The keep of a node whose file is closed after a failed call and opened again by a load.
 -- Source: this project's form.
-use Rattle.std.specs.Prelude.{ℕ, Option, Some, None}
+use Rattle.std.specs.Prelude.{ℕ, Bool, false, Option, Some, None}
 use Rattle.synod.specs.Record.{new_kept}
 use Rattle.file_keep.specs.Words.{KeptPart}
 use Rattle.file_keep.specs.Rows.{Content}
@@ -17,6 +17,11 @@ pub record NodeView (V S : Type 0) : Type 0 where
 abbrev pub kept_closed : {V : Type 0} → Option (Content V) → KeptPart V
 kept_closed None = new_kept
 kept_closed (Some content) = content.kept
+
+-- the file is open, and its last commit says the kept part
+abbrev pub is_settled_in : {V S : Type 0} → Option (WitnessedView V S) → Bool
+is_settled_in None = false
+is_settled_in (Some node) = node.keep.is_settled
 
 -- the kept part of a node's keep
 abbrev pub kept_of : {V S : Type 0} → Option (WitnessedView V S) → Option (Content V) → KeptPart V

@@ -1,5 +1,5 @@
 //! A keep whose record is in a file.
-ghost use Rattle.std.specs.Prelude.{◌≡◌, false, ◌+◌, ◌⊎◌, ◌<◌, ◌≤◌, IsTrue, IfOk, OnOk, OnErr};
+ghost use Rattle.std.specs.Prelude.{◌≡◌, false, true, ◌+◌, ◌⊎◌, ◌<◌, ◌≤◌, IsTrue, IfOk, OnOk, OnErr};
 ghost use Rattle.std.specs.Prelude.{Some, is_ok, if◌then◌else◌};
 ghost use Rattle.slots.specs.FiniteMap.{entry_at, trimmed};
 ghost use Rattle.slots.specs.declared.slots.TheConstants.{SLOTS};
@@ -7,7 +7,7 @@ ghost use Rattle.synod.specs.Record.{HasCapacityFor, changed};
 ghost use Rattle.sqlite_trees.specs.View.{IsClean, doubt};
 ghost use Rattle.file_keep.specs.Rows.{Says};
 ghost use Rattle.file_keep.specs.Tables.{HasTrees, Keeps, KeepsTrees};
-ghost use Rattle.file_keep.specs.Keeps.{IsDurable, IsSettledAt, IsWritten, LeavesEither, LeavesOr};
+ghost use Rattle.file_keep.specs.Keeps.{IsDurable, IsSettledAt, IsWritten, LeavesNothingNew, LeavesOr};
 ghost use Rattle.file_keep.specs.Keeps.{Writes, changed_slot, is_written, with_change};
 
 use crate::reading::read_content;
@@ -45,6 +45,18 @@ impl Standing {
         }
     }
 
+    /// Returns whether what the transaction sees is the record.
+    fn is_written(self) -> bool
+        ensures { result ≡ is_written self }
+    {
+        match self {
+            Standing::Settled => true,
+            Standing::Written => true,
+            Standing::Unread => false,
+            Standing::Unwritten => false,
+        }
+    }
+
     /// Returns the standing if nothing is known of the file any more.
     fn in_doubt(self) -> Standing
         ensures { is_written result ≡ false }
@@ -74,7 +86,7 @@ pub struct FileKeep<V: Value, C: ValueColumns<V>, S: Store + Drop> {
 }
 
 impl<V: Value, C: ValueColumns<V>, S: Store + Drop> Model for FileKeep<V, C, S> {
-    ghost use Rattle.file_keep.specs.Keeps.{IsKeep, KeepView, is_settled};
+    ghost use Rattle.file_keep.specs.Keeps.{IsKeep, KeepView, is_settled, is_written};
 
     ghost Value = { KeepView V S };
 
@@ -82,6 +94,7 @@ impl<V: Value, C: ValueColumns<V>, S: Store + Drop> Model for FileKeep<V, C, S> 
       store = k.tables.store;
       content = record { kept = k.stored.kept; changes = k.changes };
       is_settled = is_settled k.standing;
+      is_written = is_written k.standing;
       failures = k.failures.count;
     } };
 
@@ -219,8 +232,9 @@ impl<V: Value, C: ValueColumns<V>, S: Store + Drop> FileKeep<V, C, S> {
         ensures content { self.new.content ≡ self.old.content }
         ensures failures { self.new.failures ≡ self.old.failures }
         ensures crash { LeavesOr S.view S.recovers C.columns self.old.store self.new.store self.new.content }
+        ensures same { IsTrue self.old.is_written → self.new.store ≡ self.old.store }
     {
-        if let Standing::Written = self.standing {
+        if self.standing.is_written() {
             return Ok(());
         }
         self.settle()
@@ -234,6 +248,9 @@ impl<V: Value, C: ValueColumns<V>, S: Store + Drop> FileKeep<V, C, S> {
             ((self.new.content ≡ self.old.content) ⊎ (self.new.content ≡ with_change self.old.content change.now)) }
         ensures failures { self.new.failures ≡ self.old.failures }
         ensures crash { LeavesOr S.view S.recovers C.columns self.old.store self.new.store self.old.content }
+        ensures is_written { OnOk result (self.new.is_written ≡ true) }
+        ensures uncommitted { IsTrue self.old.is_written
+            → LeavesNothingNew S.recovers self.old.store self.new.store }
     {
         self.begin_change()?;
         let Some(changes) = self.changes.checked_add(1) else {
@@ -247,20 +264,6 @@ impl<V: Value, C: ValueColumns<V>, S: Store + Drop> FileKeep<V, C, S> {
         put_change(&mut self.tables, &self.stored, changes, slot)?;
         self.standing = Standing::Written;
         Ok(())
-    }
-
-    /// Stores one change, and commits it.
-    fn store_change(&mut self, change: &Change<V>) -> Result<(), StoreError>
-        ensures durable { OnOk result (IsDurable S.view S.recovers C.columns self.new) }
-        ensures changed { OnOk result (self.new.content ≡ with_change self.old.content change.now) }
-        ensures failed { OnErr result
-            ((self.new.content ≡ self.old.content) ⊎ (self.new.content ≡ with_change self.old.content change.now)) }
-        ensures failures { self.new.failures ≡ self.old.failures }
-        ensures crash { LeavesEither S.view S.recovers C.columns
-            self.old.store self.new.store self.old.content self.new.content }
-    {
-        self.write_change(change)?;
-        self.settle()
     }
 }
 
@@ -365,24 +368,47 @@ fn mend<V: Value, C: ValueColumns<V>, S: Store + Drop>(
 impl<V: Value, C: ValueColumns<V>, S: Store + Drop> Keep<V> for FileKeep<V, C, S> {
     ghost kept = { λ k. k.content.kept };
 
+    ghost is_committed = { λ k. k.is_settled };
+
     ghost failures = { λ k. k.failures };
 
-    /// Stores one change, as one transaction. At Ok it is durable: whatever happens, the file has
-    /// it.
+    /// Writes one change into the open transaction. So a crash leaves nothing of it before the
+    /// commit; if a call failed before, the content before the change is made durable first.
     fn store(&mut self, change: &Change<V>) -> Result<(), Failed>
         ensures stored { OnOk result (self.new.content.kept ≡ changed self.old.content.kept change.now) }
         ensures failed { OnErr result
             ((self.new.content.kept ≡ self.old.content.kept)
             ⊎ (self.new.content.kept ≡ changed self.old.content.kept change.now)) }
         ensures counted { self.new.failures ≡ (if is_ok result then self.old.failures else self.old.failures + 1) }
-        ensures durable { OnOk result (IsDurable S.view S.recovers C.columns self.new) }
+        ensures written { OnOk result (IsWritten S.view C.columns self.new) }
+        ensures is_written { OnOk result (self.new.is_written ≡ true) }
         ensures changed { OnOk result (self.new.content ≡ with_change self.old.content change.now) }
         ensures either { OnErr result
             ((self.new.content ≡ self.old.content) ⊎ (self.new.content ≡ with_change self.old.content change.now)) }
-        ensures crash { LeavesEither S.view S.recovers C.columns
-            self.old.store self.new.store self.old.content self.new.content }
+        ensures crash { LeavesOr S.view S.recovers C.columns self.old.store self.new.store self.old.content }
+        ensures uncommitted { IsTrue self.old.is_written
+            → LeavesNothingNew S.recovers self.old.store self.new.store }
     {
-        match self.store_change(change) {
+        match self.write_change(change) {
+            Ok(()) => Ok(()),
+            Err(_) => {
+                self.failures.tick();
+                Err(Failed)
+            }
+        }
+    }
+
+    /// Commits the open transaction. At Ok all changes that were stored are durable: whatever
+    /// happens, the file has them.
+    fn commit(&mut self) -> Result<(), Failed>
+        ensures committed { OnOk result (self.new.is_settled ≡ true) }
+        ensures same { self.new.content.kept ≡ self.old.content.kept }
+        ensures counted { self.new.failures ≡ (if is_ok result then self.old.failures else self.old.failures + 1) }
+        ensures durable { OnOk result (IsDurable S.view S.recovers C.columns self.new) }
+        ensures content { self.new.content ≡ self.old.content }
+        ensures crash { LeavesOr S.view S.recovers C.columns self.old.store self.new.store self.new.content }
+    {
+        match self.settle() {
             Ok(()) => Ok(()),
             Err(_) => {
                 self.failures.tick();
@@ -393,6 +419,7 @@ impl<V: Value, C: ValueColumns<V>, S: Store + Drop> Keep<V> for FileKeep<V, C, S
 
     /// Reads the file, and returns the record.
     fn load(&mut self) -> Result<Record<V>, Failed>
+        ensures committed { OnOk result (self.new.is_settled ≡ true) }
         ensures loaded { IfOk result (λ loaded. loaded.kept ≡ self.old.content.kept) }
         ensures same { self.new.content.kept ≡ self.old.content.kept }
         ensures counted { self.new.failures ≡ (if is_ok result then self.old.failures else self.old.failures + 1) }

@@ -1,11 +1,11 @@
 //! The keep of a node, whose file is closed after a failed call and opened again by a load.
-ghost use Rattle.std.specs.Prelude.{◌≡◌, ◌+◌, ◌≤◌, ◌⊎◌, IfOk, IsErr, IsSomeAnd, OnErr, OnOk};
+ghost use Rattle.std.specs.Prelude.{◌≡◌, true, ◌+◌, ◌≤◌, ◌⊎◌, IfOk, IsErr, IsSomeAnd, OnErr, OnOk};
 ghost use Rattle.std.specs.Prelude.{Some, None, is_ok, if◌then◌else◌};
 ghost use Rattle.sqlite_trees.specs.View.{IsClean};
 ghost use Rattle.synod.specs.Record.{changed};
 ghost use Rattle.file_keep.specs.Tables.{HasTrees};
-ghost use Rattle.file_keep.specs.Keeps.{IsDurable};
-ghost use Rattle.file_keep.specs.NodeKeeps.{kept_of};
+ghost use Rattle.file_keep.specs.Keeps.{IsDurable, IsWritten};
+ghost use Rattle.file_keep.specs.NodeKeeps.{is_settled_in, kept_of};
 
 use crate::value_columns::ValueColumns;
 use crate::witness::{ClosedNode, Witness, WitnessedKeep};
@@ -139,9 +139,11 @@ impl<V: Value, C: ValueColumns<V>, S: Store + Drop, W: Witness, O: Opener<S>> Ke
     for NodeKeep<V, C, S, W, O> {
     ghost kept = { λ k. kept_of k.open_keep k.closed };
 
+    ghost is_committed = { λ k. is_settled_in k.open_keep };
+
     ghost failures = { λ k. k.failures };
 
-    /// Stores one change, if the file is open, and then notes how many there are.
+    /// Writes one change into the open transaction, if the file is open.
     fn store(&mut self, change: &Change<V>) -> Result<(), Failed>
         ensures stored { OnOk result
             (kept_of self.new.open_keep self.new.closed
@@ -151,8 +153,8 @@ impl<V: Value, C: ValueColumns<V>, S: Store + Drop, W: Witness, O: Opener<S>> Ke
             ⊎ (kept_of self.new.open_keep self.new.closed
             ≡ changed (kept_of self.old.open_keep self.old.closed) change.now)) }
         ensures counted { self.new.failures ≡ (if is_ok result then self.old.failures else self.old.failures + 1) }
-        ensures durable { OnOk result
-            (IsSomeAnd self.new.open_keep (λ keep. IsDurable S.view S.recovers C.columns keep.keep)) }
+        ensures written { OnOk result
+            (IsSomeAnd self.new.open_keep (λ keep. IsWritten S.view C.columns keep.keep)) }
         ensures down { self.old.open_keep ≡ None → IsErr result }
     {
         if let Some(keep) = &mut self.open_keep {
@@ -164,8 +166,28 @@ impl<V: Value, C: ValueColumns<V>, S: Store + Drop, W: Witness, O: Opener<S>> Ke
         Err(Failed)
     }
 
+    /// Commits the open transaction, if the file is open, and then notes how many changes there
+    /// are.
+    fn commit(&mut self) -> Result<(), Failed>
+        ensures committed { OnOk result (is_settled_in self.new.open_keep ≡ true) }
+        ensures same { kept_of self.new.open_keep self.new.closed ≡ kept_of self.old.open_keep self.old.closed }
+        ensures counted { self.new.failures ≡ (if is_ok result then self.old.failures else self.old.failures + 1) }
+        ensures durable { OnOk result
+            (IsSomeAnd self.new.open_keep (λ keep. IsDurable S.view S.recovers C.columns keep.keep)) }
+        ensures down { self.old.open_keep ≡ None → IsErr result }
+    {
+        if let Some(open_keep) = &mut self.open_keep {
+            if open_keep.commit().is_ok() {
+                return Ok(());
+            }
+        }
+        self.fail();
+        Err(Failed)
+    }
+
     /// Opens the file if it is closed, reads it, and returns the record.
     fn load(&mut self) -> Result<Record<V>, Failed>
+        ensures committed { OnOk result (is_settled_in self.new.open_keep ≡ true) }
         ensures loaded { IfOk result (λ loaded. loaded.kept ≡ kept_of self.old.open_keep self.old.closed) }
         ensures same { kept_of self.new.open_keep self.new.closed ≡ kept_of self.old.open_keep self.old.closed }
         ensures counted { self.new.failures ≡ (if is_ok result then self.old.failures else self.old.failures + 1) }

@@ -1,10 +1,11 @@
 //! A keep in a file, with a witness of how many changes the file has.
-ghost use Rattle.std.specs.Prelude.{◌≡◌, ◌+◌, ◌≤◌, ◌⊎◌, ℕ, IfOk, OnErr, OnOk, is_ok, if◌then◌else◌};
+ghost use Rattle.std.specs.Prelude.{◌≡◌, true, ◌+◌, ◌≤◌, ◌⊎◌, ℕ, IfOk, IsTrue, OnErr, OnOk, is_ok};
+ghost use Rattle.std.specs.Prelude.{if◌then◌else◌};
 ghost use Rattle.sqlite_trees.specs.View.{IsClean};
 ghost use Rattle.synod.specs.Record.{changed};
 ghost use Rattle.file_keep.specs.Rows.{Says};
 ghost use Rattle.file_keep.specs.Tables.{HasTrees};
-ghost use Rattle.file_keep.specs.Keeps.{IsDurable, LeavesEither, LeavesOr, with_change};
+ghost use Rattle.file_keep.specs.Keeps.{IsDurable, IsWritten, LeavesNothingNew, LeavesOr, with_change};
 
 use crate::file_keep::{ClosedKeep, FileKeep};
 use crate::value_columns::ValueColumns;
@@ -80,14 +81,16 @@ impl<V: Value, C: ValueColumns<V>, S: Store + Drop, W: Witness> WitnessedKeep<V,
         Ok(WitnessedKeep { keep, witness })
     }
 
-    /// Notes the number of changes.
+    /// Notes the number of changes, unless the witness tells it.
     fn note(&mut self)
         ensures keep { self.new.keep ≡ self.old.keep }
         ensures told { self.new.failed_notes ≡ self.old.failed_notes
             → self.new.noted ≡ self.old.keep.content.changes }
         ensures either { (self.new.noted ≡ self.old.noted) ⊎ (self.new.noted ≡ self.old.keep.content.changes) }
     {
-        self.witness.note(self.keep.changes());
+        if self.witness.count() != self.keep.changes() {
+            self.witness.note(self.keep.changes());
+        }
     }
 
     /// Gives the store back.
@@ -139,14 +142,37 @@ impl<V: Value, C: ValueColumns<V>, S: Store + Drop, W: Witness> Keep<V>
     for WitnessedKeep<V, C, S, W> {
     ghost kept = { λ k. k.keep.content.kept };
 
+    ghost is_committed = { λ k. k.keep.is_settled };
+
     ghost failures = { λ k. k.keep.failures };
 
-    /// Stores one change, as `FileKeep` does, and then notes how many there are.
+    /// Writes one change into the open transaction, as `FileKeep` does.
     fn store(&mut self, change: &Change<V>) -> Result<(), Failed>
         ensures stored { OnOk result (self.new.keep.content.kept ≡ changed self.old.keep.content.kept change.now) }
         ensures failed { OnErr result
             ((self.new.keep.content.kept ≡ self.old.keep.content.kept)
             ⊎ (self.new.keep.content.kept ≡ changed self.old.keep.content.kept change.now)) }
+        ensures counted { self.new.keep.failures
+            ≡ (if is_ok result then self.old.keep.failures else self.old.keep.failures + 1) }
+        ensures noted { self.new.noted ≡ self.old.noted }
+        ensures written { OnOk result (IsWritten S.view C.columns self.new.keep) }
+        ensures is_written { OnOk result (self.new.keep.is_written ≡ true) }
+        ensures changed { OnOk result (self.new.keep.content ≡ with_change self.old.keep.content change.now) }
+        ensures either { OnErr result
+            ((self.new.keep.content ≡ self.old.keep.content)
+            ⊎ (self.new.keep.content ≡ with_change self.old.keep.content change.now)) }
+        ensures crash { LeavesOr S.view S.recovers C.columns
+            self.old.keep.store self.new.keep.store self.old.keep.content }
+        ensures uncommitted { IsTrue self.old.keep.is_written
+            → LeavesNothingNew S.recovers self.old.keep.store self.new.keep.store }
+    {
+        self.keep.store(change)
+    }
+
+    /// Commits the open transaction, as `FileKeep` does, and then notes how many changes there are.
+    fn commit(&mut self) -> Result<(), Failed>
+        ensures committed { OnOk result (self.new.keep.is_settled ≡ true) }
+        ensures same { self.new.keep.content.kept ≡ self.old.keep.content.kept }
         ensures counted { self.new.keep.failures
             ≡ (if is_ok result then self.old.keep.failures else self.old.keep.failures + 1) }
         ensures noted { OnOk result
@@ -155,20 +181,18 @@ impl<V: Value, C: ValueColumns<V>, S: Store + Drop, W: Witness> Keep<V>
             (self.new.failed_notes ≡ self.old.failed_notes → self.new.noted ≡ self.new.keep.content.changes) }
         ensures unnoted { OnErr result (self.new.noted ≡ self.old.noted) }
         ensures durable { OnOk result (IsDurable S.view S.recovers C.columns self.new.keep) }
-        ensures changed { OnOk result (self.new.keep.content ≡ with_change self.old.keep.content change.now) }
-        ensures either { OnErr result
-            ((self.new.keep.content ≡ self.old.keep.content)
-            ⊎ (self.new.keep.content ≡ with_change self.old.keep.content change.now)) }
-        ensures crash { LeavesEither S.view S.recovers C.columns
-            self.old.keep.store self.new.keep.store self.old.keep.content self.new.keep.content }
+        ensures content { self.new.keep.content ≡ self.old.keep.content }
+        ensures crash { LeavesOr S.view S.recovers C.columns
+            self.old.keep.store self.new.keep.store self.new.keep.content }
     {
-        self.keep.store(change)?;
+        self.keep.commit()?;
         self.note();
         Ok(())
     }
 
     /// Reads the file, and returns the record. What was not durable is so before, and then noted.
     fn load(&mut self) -> Result<Record<V>, Failed>
+        ensures committed { OnOk result (self.new.keep.is_settled ≡ true) }
         ensures loaded { IfOk result (λ loaded. loaded.kept ≡ self.old.keep.content.kept) }
         ensures same { self.new.keep.content.kept ≡ self.old.keep.content.kept }
         ensures counted { self.new.keep.failures

@@ -1,5 +1,5 @@
 -- The words of a text, whatever the case of letters.
-use Rattle.finding.proofs.PatternPrelude.{◌≡◌, ℕ, ◌+◌, ◌-◌, ◌<◌, ◌≤◌, Bool, true, false, List, [], ◌∷◌, ◌++◌, length, take, drop, map, refl, ap, sym, ◌∙◌, subst, arith, append_assoc, length-append, AllByRecursion, str_to_ascii_lowercase, to_ascii_lowercase, drop-append_seam, take-append_seam, take-append-drop, length-map, length-take, Name, words_after, HasWord, HasWords}
+use Rattle.finding.proofs.PatternPrelude.{◌≡◌, ℕ, ◌+◌, ◌<◌, ◌≤◌, List, [], ◌∷◌, ◌++◌, length, take, drop, refl, ap, sym, ◌∙◌, subst, arith, length-append, str_to_ascii_lowercase, to_ascii_lowercase, drop-append_seam, take-append_seam, take-append-drop, length-map, length-take, Name, words_after, HasWord, HasWords}
 
 -- the text from an index on begins with the word
 abbrev pub IsAlikeAt : List ℕ → Name → ℕ → Type 0

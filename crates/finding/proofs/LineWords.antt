@@ -1,7 +1,7 @@
 -- Re-exports of the definitions and lemmas with which this crate is proved.
 pub use Rattle.finding.specs.Essentials.{AreMatchingEssentials, AreRecorded, IsTrimmedLength, IsActiveHypothesis}
 pub use Rattle.finding.specs.Matching.{IsMatch, AssertionMatches, HasPattern, SomeEssentialHas, essential_at, essential_expr}
-pub use Rattle.finding.specs.Lines.{AreFoundLines, IsLineIf, found_line, line_if}
+pub use Rattle.finding.specs.Lines.{AreFoundLines, IsLineIf, expr_end, found_line, is_still_first, label_start, line_if, line_with_essentials, line_of, listed_essential, listed_essentials}
 pub use Rattle.finding.specs.declared.query.SearchQuery.{SearchQuery}
 pub use Rattle.finding.specs.declared.query.SearchQuery.TheVariants.{WithHypotheses}
 pub use Rattle.frame.proofs.ActivePositions.{IsActiveAt, active-members, members-active}
@@ -22,4 +22,4 @@ pub use Rattle.std.proofs.lemmas.Bool.{and_from, and_parts, both_ways, cases_lt,
 pub use Rattle.std.proofs.lemmas.List.{append-nil, get_or-take, get_or_append_left, get_or_at, take_all}
 pub use Rattle.std.proofs.lemmas.Option.{same_Some, slice_get-get_or}
 pub use Rattle.std.proofs.lemmas.Result.{IfOk-weaker, on_ok_weaker}
-pub use Rattle.std.specs.Prelude.{IfOk, IsFalse, IsTrue, OnOk, Result, option_and_then, option_map, ◌↔◌, ◌⊎◌}
+pub use Rattle.std.specs.Prelude.{IfOk, Err, IsFalse, IsTrue, Ok, OnOk, Result, option_and_then, option_map, ◌↔◌, ◌⊎◌}

@@ -1,6 +1,6 @@
 -- The parts match a contiguous run of the symbols of an expression exactly if some tail of it
 -- begins with what they match.
-use Rattle.finding.proofs.PatternPrelude.{◌≡◌, ◌↔◌, ℕ, ◌+◌, ◌≤◌, IsTrue, Some, None, Bool, true, false, List, [], ◌∷◌, ◌++◌, length, take, drop, map, refl, ap, sym, ◌∙◌, subst, arith, append_assoc, length-append, drop-append_seam, and_parts, and_from, both_ways, take-append-drop, drop-map, Name, name_eq, name_same, same_name, Part, Symbol, AnySymbol, AnySequence, MatchesExactly, Matches, part_view, segment_len, matches_prefix, IsFirstMatch}
+use Rattle.finding.proofs.PatternPrelude.{◌≡◌, ◌↔◌, ℕ, ◌+◌, ◌≤◌, IsTrue, Some, None, true, false, List, [], ◌∷◌, ◌++◌, length, take, drop, map, refl, ap, sym, ◌∙◌, subst, arith, append_assoc, length-append, drop-append_seam, and_parts, and_from, both_ways, take-append-drop, drop-map, Name, name_eq, name_same, same_name, Part, Symbol, AnySymbol, AnySequence, MatchesExactly, Matches, part_view, segment_len, IsFirstMatch}
 use Rattle.finding.proofs.SegmentLemmas.{Begins, IsSomewhere, GoesOn, none_found, all_found, goes_past}
 
 -- symbols that the parts match, with others after them

@@ -1,6 +1,5 @@
 -- The definitions, worked out on small patterns and expressions.
-use Rattle.finding.proofs.PatternPrelude.{◌≡◌, List, [], ◌∷◌, ◌++◌, map, codes, refl, Some, find, list_any, true, false, Name, words_in, symbol, any_symbol, any_sequence, part_of, MatchesExactly, Matches, is_symbol_word, is_unknown_word, HasWord, HasWords}
-use Rattle.finding.specs.Matches.{Part}
+use Rattle.finding.proofs.PatternPrelude.{◌≡◌, List, [], ◌∷◌, map, codes, refl, Some, find, list_any, false, Name, words_in, symbol, any_symbol, any_sequence, part_of, MatchesExactly, Matches, is_symbol_word, is_unknown_word, HasWords}
 
 -- the words of a pattern, separated by any white bytes
 pattern_words : words_in (codes "  E. $? A.  $* -> ") ≡ codes "E." ∷ codes "$?" ∷ codes "A." ∷ codes "$*" ∷ codes "->" ∷ []

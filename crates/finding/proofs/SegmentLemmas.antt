@@ -1,5 +1,5 @@
 -- Greedy matching: the first match of a segment leaves the most for the parts after the next `$*`.
-use Rattle.finding.proofs.PatternPrelude.{◌≡◌, ℕ, suc, ◌+◌, ◌-◌, ◌<◌, ◌≤◌, Bool, true, false, ◌&&◌, List, [], ◌∷◌, length, map, take, drop, get_or, ltb, refl, ap, sym, ◌∙◌, subst, arith, Some, None, Option, drop_of_length-le, drop-cons, and_parts, and_from, both_ways, ltb-true, ltb-false, drop-drop, drop-map, length-drop, length-map, length-take-le, get_or-map, Name, Part, Symbol, AnySymbol, AnySequence, is_any_sequence, segment_len, matches_symbol, matches_prefix, IsFirstMatch}
+use Rattle.finding.proofs.PatternPrelude.{◌≡◌, ℕ, suc, ◌+◌, ◌-◌, ◌<◌, ◌≤◌, Bool, true, false, ◌&&◌, List, [], ◌∷◌, length, map, take, drop, get_or, ltb, refl, ap, sym, ◌∙◌, subst, arith, Some, None, drop_of_length-le, drop-cons, and_parts, and_from, both_ways, ltb-true, ltb-false, drop-drop, drop-map, length-drop, length-map, length-take-le, get_or-map, Name, Part, Symbol, AnySymbol, AnySequence, is_any_sequence, segment_len, matches_symbol, matches_prefix, IsFirstMatch}
 
 -- the symbols begin with what the parts match, where `$*` matches any number of symbols
 abbrev pub Begins : List Part → List Name → Type 0

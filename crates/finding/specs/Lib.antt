@@ -6,3 +6,5 @@ pub mod Matches
 pub mod Parsing
 pub mod Segments
 pub mod DescriptionWords
+pub mod LabelPatterns
+pub mod DeclaredSymbols

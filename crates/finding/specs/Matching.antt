@@ -4,7 +4,7 @@
 -- judged by its frame.
 use Rattle.std.specs.Prelude.{ℕ, ◌+◌, ◌⊎◌, List, [], ◌∷◌, Option, Some, None, IsTrue, option_and_then, slice_get}
 use Rattle.mm_lex.specs.declared.span.Span.{Span}
-use Rattle.mm_lex.specs.Alphabet.{word}
+use Rattle.mm_lex.specs.Alphabet.{Name, word}
 use Rattle.mm_read.specs.declared.stmt.Stmt.{Stmt}
 use Rattle.mm_read.specs.declared.stmt.Stmt.TheVariants.{Ess, Axiom, Prove}
 use Rattle.mm_read.specs.Statements.{Expr, Database}
@@ -12,14 +12,21 @@ use Rattle.scope.specs.Active.{bares, before, stmt_at, is_assertion}
 use Rattle.frame.specs.FrameOf.{hypotheses}
 use Rattle.finding.specs.Matches.{Part, Matches}
 use Rattle.finding.specs.DescriptionWords.{HasWords}
+use Rattle.finding.specs.LabelPatterns.{IsLike}
 use Rattle.finding.specs.declared.query.SearchQuery.{SearchQuery}
-use Rattle.finding.specs.declared.query.SearchQuery.TheVariants.{Pattern, WithHypotheses, Words}
+use Rattle.finding.specs.declared.query.SearchQuery.TheVariants.{Pattern, WithHypotheses, Words, Labels}
 
 -- the expression of an assertion
 abbrev pub assertion_expr : Stmt → Option Expr
 assertion_expr (Axiom label expr) = Some expr
 assertion_expr (Prove label expr proof) = Some expr
 assertion_expr s = None
+
+-- the label of an assertion, empty for another statement
+abbrev pub assertion_label : Stmt → Name
+assertion_label (Axiom label expr) = label
+assertion_label (Prove label expr proof) = label
+assertion_label s = []
 
 -- the expression of an `$e`
 abbrev pub essential_expr : Stmt → Option Expr
@@ -55,6 +62,7 @@ abbrev pub AssertionMatches : List ℕ → Database → List (Option Span) → S
 AssertionMatches text S descriptions (Pattern p) index s = HasPattern p (assertion_expr s)
 AssertionMatches text S descriptions (WithHypotheses p) index s = HasPattern p (assertion_expr s) ⊎ SomeEssentialHas p S (hypotheses (before (bares S) (index + 1)) s)
 AssertionMatches text S descriptions (Words ws) index s = HasWords (description_at text descriptions index) ws
+AssertionMatches text S descriptions (Labels p) index s = IsLike p (assertion_label s)
 
 -- the statement at an index is an assertion that matches
 abbrev pub IsMatch : List ℕ → Database → List (Option Span) → SearchQuery → ℕ → Stmt → Type 0

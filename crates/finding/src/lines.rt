@@ -4,9 +4,12 @@ ghost use Rattle.mm_read.specs.Statements.{Database};
 ghost use Rattle.scope.specs.Active.{bares, is_assertion, stmt_at};
 ghost use Rattle.mm_lex.specs.Alphabet.{word};
 ghost use Rattle.finding.specs.Essentials.{AreRecorded};
-ghost use Rattle.finding.specs.Matching.{IsMatch, AssertionMatches, description_at};
-ghost use Rattle.finding.specs.Lines.{AreFoundLines, found_line, line_if};
+ghost use Rattle.finding.specs.Matching.{IsMatch, AssertionMatches, assertion_label};
+ghost use Rattle.finding.specs.Matching.{description_at};
+ghost use Rattle.finding.specs.Lines.{AreFoundLines, expr_end, found_line, label_start};
+ghost use Rattle.finding.specs.Lines.{line_if, line_of, shows_essentials};
 
+use crate::essential_lines::push_line_with_essentials;
 use crate::expressions::{assertion_expr, has_pattern};
 use crate::hypotheses::{record_essential, trim_to_active};
 use crate::query::{SearchQuery, SearchedDatabase};
@@ -15,7 +18,8 @@ use mm_lex::Span;
 use mm_read::Stmt;
 use std::alloc::{AllocError, Global};
 
-/// Returns a line for each assertion that matches, in order: its label and its expression.
+/// Returns a line for each assertion that matches, in order: its label and its expression; if
+/// hypotheses are searched, its mandatory `$e` before its expression.
 ///
 /// Errors: an allocation fails. Cost: at most the size of the statements, or of the descriptions,
 /// times the size of the pattern or of the words; each `$e` is searched once, however many
@@ -29,13 +33,16 @@ pub fn found_lines(
     requires { searched.now.frames.now.statements ≡ bares searched.now.statements.now }
     ensures { IfOk result (λ lines. AreFoundLines
         (IsMatch searched.now.text.now searched.now.statements.now searched.now.descriptions.now
-        query.now) 0 searched.now.statements.now lines.items) }
+        query.now) (line_of searched.now.statements.now query.now) 0 searched.now.statements.now
+        lines.items) }
 {
     let mut lines = Vec::new(alloc);
     let mut essentials = Vec::new(alloc);
     for (index, statement) in searched.statements.iter().enumerate() {
         let is_found = is_match(alloc, searched, query, &mut essentials, index, statement)?;
-        push_line_if(&mut lines, is_found, statement)?;
+        push_line_if(
+            alloc, &mut lines, is_found, searched, query, index, statement,
+        )?;
         record_statement(alloc, query, &mut essentials, index + 1, statement)?;
     }
     Ok(lines)
@@ -60,6 +67,7 @@ fn record_statement(
         }
         SearchQuery::Pattern(_) => Ok(()),
         SearchQuery::Words(_) => Ok(()),
+        SearchQuery::Labels(_) => Ok(()),
     }
 }
 
@@ -118,6 +126,17 @@ fn assertion_matches(
             searched.descriptions,
             index,
         ))),
+        SearchQuery::Labels(pattern) => pattern.matches(alloc, assertion_label(statement)),
+    }
+}
+
+/// Returns the label of an assertion, or an empty slice for another statement.
+fn assertion_label(statement: &Stmt) -> &[u8]
+    ensures { result.now ≡ assertion_label statement.now }
+{
+    match statement {
+        Stmt::Axiom { label, .. } | Stmt::Prove { label, .. } => label.as_bytes(),
+        _ => &[],
     }
 }
 
@@ -149,25 +168,90 @@ fn span_bytes(text: &[u8], span: Span) -> &[u8]
     rest.split_at(len).0
 }
 
-/// Appends the line of an assertion if `is_found` is true.
-fn push_line_if(lines: &mut Vec<u8>, is_found: bool, statement: &Stmt) -> Result<(), AllocError>
-    ensures { OnOk result (lines.new.items ≡ lines.old.items ++ line_if is_found statement.now) }
+/// Appends the line of the assertion at an index if `is_found` is true.
+fn push_line_if(
+    alloc: Global,
+    lines: &mut Vec<u8>,
+    is_found: bool,
+    searched: &SearchedDatabase<'_>,
+    query: &SearchQuery<'_>,
+    index: usize,
+    statement: &Stmt,
+) -> Result<(), AllocError>
+    requires same { searched.now.frames.now.statements ≡ bares searched.now.statements.now }
+    requires stands { stmt_at searched.now.statements.now (index + 1) ≡ Some statement.now }
+    requires assertion { IsTrue is_found → IsTrue (is_assertion statement.now) }
+    ensures { OnOk result (lines.new.items ≡ lines.old.items
+        ++ line_if is_found (line_of searched.now.statements.now query.now index statement.now)) }
 {
     if is_found {
-        push_found_line(lines, statement)
+        push_line(alloc, lines, searched, query, index, statement)
     } else {
         Ok(())
     }
 }
 
-/// Appends the line of an assertion, or nothing for another statement.
+/// Appends the line of the assertion at an index.
+fn push_line(
+    alloc: Global,
+    lines: &mut Vec<u8>,
+    searched: &SearchedDatabase<'_>,
+    query: &SearchQuery<'_>,
+    index: usize,
+    statement: &Stmt,
+) -> Result<(), AllocError>
+    requires same { searched.now.frames.now.statements ≡ bares searched.now.statements.now }
+    requires stands { stmt_at searched.now.statements.now (index + 1) ≡ Some statement.now }
+    requires assertion { IsTrue (is_assertion statement.now) }
+    ensures { OnOk result (lines.new.items ≡ lines.old.items
+        ++ line_of searched.now.statements.now query.now index statement.now) }
+{
+    if shows_essentials(query) {
+        push_line_with_essentials(alloc, lines, searched, index, statement)
+    } else {
+        push_found_line(lines, statement)
+    }
+}
+
+/// Returns whether the lines of a search have the `$e` of their assertions.
+fn shows_essentials(query: &SearchQuery<'_>) -> bool
+    ensures { result ≡ shows_essentials query.now }
+{
+    match query {
+        SearchQuery::Pattern(_) => false,
+        SearchQuery::WithHypotheses(_) => true,
+        SearchQuery::Words(_) => false,
+        SearchQuery::Labels(_) => false,
+    }
+}
+
+/// Appends the label and the expression of an assertion, or nothing for another statement.
 fn push_found_line(lines: &mut Vec<u8>, statement: &Stmt) -> Result<(), AllocError>
     ensures { OnOk result (lines.new.items ≡ lines.old.items ++ found_line statement.now) }
 {
+    push_label_start(lines, statement)?;
+    push_expr_end(lines, statement)
+}
+
+/// Appends the label of an assertion and a space.
+pub(crate) fn push_label_start(lines: &mut Vec<u8>, statement: &Stmt) -> Result<(), AllocError>
+    ensures { OnOk result (lines.new.items ≡ lines.old.items ++ label_start statement.now) }
+{
     match statement {
-        Stmt::Axiom { label, expr } | Stmt::Prove { label, expr, .. } => {
+        Stmt::Axiom { label, .. } | Stmt::Prove { label, .. } => {
             lines.extend_from_slice(label.as_bytes())?;
-            lines.extend_from_slice(b" ")?;
+            lines.extend_from_slice(b" ")
+        }
+        _ => Ok(()),
+    }
+}
+
+/// Appends the expression of an assertion, and ends the line.
+pub(crate) fn push_expr_end(lines: &mut Vec<u8>, statement: &Stmt) -> Result<(), AllocError>
+    ensures { OnOk result (lines.new.items ≡ lines.old.items ++ expr_end statement.now) }
+{
+    match statement {
+        Stmt::Axiom { expr, .. } | Stmt::Prove { expr, .. } => {
             lines.extend_from_slice(expr.as_text())?;
             lines.extend_from_slice(b"\n")
         }

@@ -1,12 +1,15 @@
 //! Patterns of symbols.
-ghost use Rattle.std.specs.Prelude.{◌≡◌, ◌↔◌, map, IfErr, IfOk, IsTrue};
+ghost use Rattle.std.specs.Prelude.{◌≡◌, ◌↔◌, map, option_map, IfErr, IfOk, IsTrue};
 ghost use Rattle.finding.specs.PatternWords.{words_in};
 ghost use Rattle.finding.specs.Parsing.{ArePattern, IsParseError};
 ghost use Rattle.finding.specs.Matches.{Matches, part_of};
+ghost use Rattle.finding.specs.DeclaredSymbols.{undeclared};
 
+use crate::declared_symbols::undeclared_part;
 use crate::matching::is_in;
 use crate::part::Part;
 use crate::words::{first_unknown_word, has_symbol, parts_of};
+use mm_read::Stmt;
 use std::alloc::{AllocError, Global};
 use std::marker::Model;
 
@@ -70,5 +73,22 @@ impl<'a> Pattern<'a> {
         ensures { IsTrue result ↔ Matches self.now (map (λ s. s.now) symbols.now) }
     {
         is_in(self.parts.as_slice(), symbols)
+    }
+
+    /// Returns the first symbol of the pattern that no `$c` and no `$v` of the statements declares;
+    /// `None` if each is declared. Does not allocate.
+    ///
+    /// Cost: the declarations, once for each symbol of the pattern.
+    #[tactic(auto, using(crate::proofs::DeclaredLemmas::undeclared_here, crate::proofs::DeclaredLemmas::undeclared_on, crate::proofs::DeclaredLemmas::undeclared_none))]
+    pub fn undeclared_symbol(&self, statements: &[Stmt]) -> Option<&'a [u8]>
+        ensures { option_map (λ x. x.now) result ≡ undeclared statements.now self.now }
+    {
+        let parts = self.parts.as_slice();
+        for part in parts {
+            if let Some(name) = undeclared_part(*part, statements) {
+                return Some(name);
+            }
+        }
+        None
     }
 }

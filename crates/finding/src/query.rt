@@ -1,5 +1,8 @@
 //! The pattern or words of a search, and the database that is searched.
-use crate::{Pattern, SearchWords};
+ghost use Rattle.std.specs.Prelude.{◌≡◌, option_map};
+ghost use Rattle.finding.specs.DeclaredSymbols.{undeclared_in};
+
+use crate::{LabelPattern, Pattern, SearchWords};
 use frame::Frames;
 use mm_lex::Span;
 use mm_read::Stmt;
@@ -13,6 +16,25 @@ pub enum SearchQuery<'a> {
     WithHypotheses(Pattern<'a>),
     /// Words that each occur in the description.
     Words(SearchWords<'a>),
+    /// A pattern of the label.
+    Labels(LabelPattern<'a>),
+}
+
+impl<'a> SearchQuery<'a> {
+    /// Returns the first symbol of the pattern that no `$c` and no `$v` of the statements declares;
+    /// `None` if each is declared, or the search has no pattern of symbols. Does not allocate.
+    ///
+    /// Cost: the declarations, once for each symbol of the pattern.
+    pub fn undeclared_symbol(&self, statements: &[Stmt]) -> Option<&'a [u8]>
+        ensures { option_map (λ x. x.now) result ≡ undeclared_in statements.now self.now }
+    {
+        match self {
+            SearchQuery::Pattern(pattern) => pattern.undeclared_symbol(statements),
+            SearchQuery::WithHypotheses(pattern) => pattern.undeclared_symbol(statements),
+            SearchQuery::Words(_) => None,
+            SearchQuery::Labels(_) => None,
+        }
+    }
 }
 
 /// A database that is searched.

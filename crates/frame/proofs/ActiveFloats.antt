@@ -1,8 +1,7 @@
 -- A variable has one active `$f`, and a hypothesis is a `$e` or such a `$f`.
-use Rattle.frame.proofs.Words.{sym, ◌∙◌, ap, subst, arith, inl, inr, length-append, take-append-drop, ◌≡◌, ℕ, suc, ◌+◌, ◌-◌, ◌<◌, true, false, not, ◌&&◌, ◌⊎◌, ◌∷◌, ◌++◌, length, take, drop, slice_get, Some, refl, take-append-add, bytes_eq-Decides, and_parts, Name, has_name, Stmt, Expr, Database, stays_open, is_active, is_essential, is_variable, has_float, is_float_of, IsLegal, is_mandatory, is_hypothesis, is_float_in}
+use Rattle.frame.proofs.Words.{sym, ◌∙◌, ap, subst, arith, inl, inr, length-append, take-append-drop, ◌≡◌, ℕ, suc, ◌+◌, ◌-◌, ◌<◌, true, false, not, ◌&&◌, ◌⊎◌, ◌∷◌, ◌++◌, length, take, drop, slice_get, Some, refl, take-append-add, bytes_eq-Decides, and_parts, Name, has_name, Stmt, Expr, Database, stays_open, is_active, is_essential, is_variable, has_float, is_float_of, IsLegal, is_mandatory, is_hypothesis, is_float_in, AreAllLegal}
 use Rattle.frame.proofs.LastActiveLemmas.{drop-front}
 use Rattle.mm_read.specs.declared.stmt.Stmt.TheVariants as stmt
-use Rattle.frame.proofs.LegalLabels.{AllKept}
 use Rattle.frame.proofs.ActiveAfter.{stands-active}
 use Rattle.frame.proofs.LegalAfter.{legal-keeps, stands-at}
 use Rattle.frame.proofs.OpenLemmas.{stays_open-front}
@@ -14,7 +13,7 @@ rest-active S A t B whole stays =
     ∙ (ap (λ T. stays_open 0 (drop (suc (length A)) T)) whole ∙ (ap (stays_open 0) (drop-front A t B) ∙ stays))
 
 -- there is no second `$f` of x after an active one
-pub one-float : (S A : Database) (m l x : Name) (B : Database) (k : ℕ) (m' l' : Name) → AllKept S → S ≡ A ++ stmt.Float m l x ∷ B → stays_open 0 B ≡ true → slice_get S k ≡ Some (stmt.Float m' l' x) → length A < k → ⊥
+pub one-float : (S A : Database) (m l x : Name) (B : Database) (k : ℕ) (m' l' : Name) → AreAllLegal S → S ≡ A ++ stmt.Float m l x ∷ B → stays_open 0 B ≡ true → slice_get S k ≡ Some (stmt.Float m' l' x) → length A < k → ⊥
 one-float S A m l x B k m' l' all whole stays at_k lt =
     let j = k - suc (length A) in
     let up : k ≡ length A + suc j = omega (arith, lt) in
@@ -44,13 +43,8 @@ pub float-of-kind : (x : Name) (t : Stmt) → is_float_of x t ≡ true → (m l 
 float-of-kind x (stmt.Float m l y) h = (m, l, ap (stmt.Float m l) (sym ((bytes_eq-Decides x y).0 h)))
 float-of-kind x s h = cc
 
--- a `$e` does not close a block
-pub stays-after : (t : Stmt) (B : Database) → is_essential t ≡ true → stays_open 0 B ≡ true → stays_open 0 (t ∷ B) ≡ true
-stays-after (stmt.Ess m w) B h k = k
-stays-after s B h k = cc
-
 -- two active `$f` of the same variable are at the same position
-pub one-place : (S A : Database) (m l x : Name) (B A' : Database) (m' l' : Name) (B' : Database) → AllKept S → S ≡ A ++ stmt.Float m l x ∷ B → stays_open 0 B ≡ true
+pub one-place : (S A : Database) (m l x : Name) (B A' : Database) (m' l' : Name) (B' : Database) → AreAllLegal S → S ≡ A ++ stmt.Float m l x ∷ B → stays_open 0 B ≡ true
     → S ≡ A' ++ stmt.Float m' l' x ∷ B' → stays_open 0 B' ≡ true → length A ≡ length A'
 one-place S A m l x B A' m' l' B' all whole stays whole' stays' =
     let there : slice_get S (length A) ≡ Some (stmt.Float m l x) = ap (λ w. slice_get w (length A)) whole ∙ stands-at A (stmt.Float m l x) B in

@@ -1,5 +1,6 @@
 -- A statement is kept with the parts that were found, also after entries are appended or removed.
-use Rattle.frame.proofs.Words.{Result, Ok, Err, OnOk, sym, ◌∙◌, ap, subst, arith, inl, inr, ◌≡◌, ℕ, ◌-◌, ◌≤◌, Bool, true, false, List, [], ◌∷◌, ◌++◌, length, map, filter, take, slice_get, Some, refl, take-append_seam, take-map, take_all, Name, Stmt, Expr, Database, active, expr_of, is_essential, name_at, decode, hypotheses, is_hypothesis, actives, is_disj, is_hypothesis_kind, typecode_of, Kind, Float, Ess, Entry, Assertion, take-get, stmt_by, stmt_of, In, AreHypotheses, IsFilledFrom, is_hypothesis_entry, ArePartsFor, IsKeptAs, IsKeptOf, Storage, length-map, kept_with, is_float_in, floats_in, hypothesis_at, entry_hypothesis, typecode_at, symbols_at, option_symbols, are_together, float_variables, pairs_by, AreReordered, map-map}
+use Rattle.frame.proofs.Words.{Result, Ok, Err, OnOk, sym, ◌∙◌, ap, subst, arith, inl, inr, ◌≡◌, ℕ, ◌-◌, ◌≤◌, Bool, true, false, false≢true, List, [], ◌∷◌, length, map, filter, take, slice_get, Some, refl, take-map, take_all, Name, Stmt, Database, active, name_at, decode, hypotheses, is_hypothesis, actives, is_disj, is_hypothesis_kind, typecode_of, Kind, Float, Ess, Entry, Assertion, take-get, stmt_by, stmt_of, In, AreHypotheses, ArePartsOf, IsFilledFrom, is_hypothesis_entry, IsKeptAs, length-map, hypothesis_at, entry_hypothesis, typecode_at, symbols_at, option_symbols, are_together, float_variables, pairs_by, AreReordered, map-map, take-take}
+use Rattle.entries.specs.Entries.{no_parts}
 use Rattle.mm_read.specs.declared.stmt.Stmt.TheVariants as stmt
 use Rattle.frame.proofs.ActivePositions.{active-members}
 use Rattle.frame.proofs.LegalAfter.{stands-at}
@@ -43,10 +44,6 @@ hypothesis-kinds S s (stmt.Float l c x) h = refl
 hypothesis-kinds S s (stmt.Ess l e) h = refl
 hypothesis-kinds S s t h = cc
 
-float-kinds-in : (e : Expr) (t : Stmt) → is_float_in e t ≡ true → is_hypothesis_kind t ≡ true
-float-kinds-in e (stmt.Float l c x) h = refl
-float-kinds-in e s h = cc
-
 -- the first statements, as many as there are entries, are all
 all-stand : (names labels : List Name) (es : List Entry) → take (length es) (map (stmt_of names labels) es) ≡ map (stmt_of names labels) es
 all-stand names labels es = take-map (stmt_of names labels) (length es) es ∙ ap (map (stmt_of names labels)) (take_all (length es) es (omega arith))
@@ -56,9 +53,6 @@ hypotheses-are names labels es s =
     let S = take (length es) (map (stmt_of names labels) es) in
     subst (λ D. AreHypotheses es (hypotheses D s)) (all-stand names labels es) (hypotheses-of names labels es (length es) (is_hypothesis S s) (hypothesis-kinds S s))
 
-pub floats-are : (names labels : List Name) (es : List Entry) (e : Expr) → AreHypotheses es (floats_in (map (stmt_of names labels) es) e)
-floats-are names labels es e = subst (λ D. AreHypotheses es (floats_in D e)) (all-stand names labels es) (hypotheses-of names labels es (length es) (is_float_in e) (float-kinds-in e))
-
 -- ---- entries appended or removed
 
 alike : {A : Type 0} (f g : ℕ → A) (ps : List ℕ) → ((p : ℕ) → In p ps → f p ≡ g p) → map f ps ≡ map g ps
@@ -67,15 +61,18 @@ alike f g (p ∷ ps) h = ap (λ x. x ∷ map f ps) (h p (inl refl)) ∙ ap (λ r
 
 -- a statement that is kept after the first i entries is kept so after any entries that begin with
 -- these
-pub kept-moved : (names labels : List Name) (es fs : List Entry) (i : ℕ) (s : Stmt) (d : Assertion) → take i es ≡ take i fs
+kept-moved : (names labels : List Name) (es fs : List Entry) (i : ℕ) (s : Stmt) (d : Assertion) → take i es ≡ take i fs
     → IsKeptAs es (take i (map (stmt_of names labels) es)) s d → IsKeptAs fs (take i (map (stmt_of names labels) es)) s d
-kept-moved names labels es fs i s d same k = record {
-  hypotheses_kept = k.hypotheses_kept;
-  numbered_kept = k.numbered_kept ∙ alike (hypothesis_at es) (hypothesis_at fs) d.hypotheses (λ p j. ap (entry_hypothesis p) (agree p j));
-  typecodes_kept = k.typecodes_kept ∙ alike (typecode_at es) (typecode_at fs) d.hypotheses (λ p j. ap (λ o. typecode_of (option_symbols o)) (agree p j));
-  pairs_kept = λ w. subst (λ lists. AreReordered (pairs_by (are_together lists) (float_variables d.numbered_hypotheses)) d.groups) symbols (k.pairs_kept w);
-  own_kept = k.own_kept;
-}
+kept-moved names labels es fs i s d same k = λ w.
+    let f = k w in
+    let a = f.described in record {
+      described = record {
+        same = a.same;
+        numbered_made = a.numbered_made ∙ alike (hypothesis_at es) (hypothesis_at fs) d.hypotheses (λ p j. ap (entry_hypothesis p) (agree a.same p j));
+        typecodes_made = a.typecodes_made ∙ alike (typecode_at es) (typecode_at fs) d.hypotheses (λ p j. ap (λ o. typecode_of (option_symbols o)) (agree a.same p j));
+      };
+      pairs_made = subst (λ lists. AreReordered (pairs_by (are_together lists) (float_variables d.numbered_hypotheses)) d.groups) symbols f.pairs_made;
+    }
   where
     T : Database
     T = take i (map (stmt_of names labels) es)
@@ -86,41 +83,32 @@ kept-moved names labels es fs i s d same k = record {
         let e = active-entry names labels es i q p j in
         (take-get i (p - 1) es e.0 e.2).1 ∙ sym (take-get i (p - 1) fs e.0 (ap (λ l. slice_get l (p - 1)) (sym same) ∙ e.2)).1
 
-    agree : (p : ℕ) → In p d.hypotheses → slice_get es (p - 1) ≡ slice_get fs (p - 1)
-    agree p j = by d.whole (subst (In p) k.hypotheses_kept j)
-      where
-        by : (w : Bool) → In p (kept_with w T s) → slice_get es (p - 1) ≡ slice_get fs (p - 1)
-        by true n = stays (is_hypothesis T s) p n
-        by false n = stays (is_float_in (expr_of s)) p n
+    agree : d.hypotheses ≡ hypotheses T s → (p : ℕ) → In p d.hypotheses → slice_get es (p - 1) ≡ slice_get fs (p - 1)
+    agree all p j = stays (is_hypothesis T s) p (subst (In p) all j)
 
     symbols : map (λ q. symbols_at es q.0) (actives is_disj T) ≡ map (λ q. symbols_at fs q.0) (actives is_disj T)
     symbols =
         let qs = actives is_disj T in
         sym (map-map (symbols_at es) (λ q. q.0) qs) ∙ (alike (symbols_at es) (symbols_at fs) (map (λ q. q.0) qs) (λ p j. ap option_symbols (stays is_disj p j)) ∙ map-map (symbols_at fs) (λ q. q.0) qs)
 
--- a statement that is kept after all entries is kept so after entries are appended
-pub kept-more : (names labels : List Name) (es more : List Entry) (s : Stmt) (d : Assertion) → IsKeptAs es (map (stmt_of names labels) es) s d → IsKeptAs (es ++ more) (map (stmt_of names labels) es) s d
-kept-more names labels es more s d k =
-    let all = all-stand names labels es in
-    subst (λ T. IsKeptAs (es ++ more) T s d) all
-    (kept-moved names labels es (es ++ more) (length es) s d (take_all (length es) es (omega arith) ∙ sym (take-append_seam es more)) (subst (λ T. IsKeptAs es T s d) (sym all) k))
+-- a statement that is kept after the first i entries alone is kept so after all entries
+pub kept-more : (names labels : List Name) (es : List Entry) (i : ℕ) (s : Stmt) (d : Assertion) → IsKeptAs (take i es) (take i (map (stmt_of names labels) es)) s d → IsKeptAs es (take i (map (stmt_of names labels) es)) s d
+kept-more names labels es i s d k =
+    let same : take i (map (stmt_of names labels) (take i es)) ≡ take i (map (stmt_of names labels) es) =
+    ap (take i) (sym (take-map (stmt_of names labels) i es)) ∙ take-take i i (map (stmt_of names labels) es) (omega arith) in
+    subst (λ T. IsKeptAs es T s d) same (kept-moved names labels (take i es) es i s d (take-take i i es (omega arith)) (subst (λ T. IsKeptAs (take i es) T s d) (sym same) k))
 
--- the parts made of all mandatory hypotheses of s are those that s is kept with
-pub filled-kept : (es : List Entry) (S : Database) (s : Stmt) (ps : List ℕ) (d : Assertion) → ps ≡ hypotheses S s → (is_essential s ≡ true → ⊥) → IsFilledFrom es S ps d → IsKeptAs es S s d
-filled-kept es S s ps d all other p = record {
-  hypotheses_kept = p.described.same ∙ (all ∙ ap (λ b. kept_with b S s) (sym p.is_whole));
-  numbered_kept = p.described.numbered_made;
-  typecodes_kept = p.described.typecodes_made;
-  pairs_kept = λ w. p.pairs_made;
-  own_kept = λ e. absurd (other e);
+-- ---- the parts that were found
+
+pub filled-parts : (es : List Entry) (S : Database) (ps : List ℕ) (d : Assertion) → IsFilledFrom es S ps d → ArePartsOf es S ps d
+filled-parts es S ps d f = record {
+  paired = ap length f.described.numbered_made ∙ length-map d.hypotheses (hypothesis_at es);
+  typecodes_counted = ap length f.described.typecodes_made ∙ length-map d.hypotheses (typecode_at es);
+  kept = λ w. f;
 }
 
-pub parts-for : (k : Storage) (s : Stmt) (d : Assertion) → IsKeptOf k s d → ArePartsFor k s d
-parts-for k s d p = record {
-  paired = ap length p.numbered_kept ∙ length-map d.hypotheses (hypothesis_at k.entries);
-  typecodes_counted = ap length p.typecodes_kept ∙ length-map d.hypotheses (typecode_at k.entries);
-  kept = λ has. p;
-}
+pub no-parts : (es : List Entry) (S : Database) (ps : List ℕ) (d : Assertion) → d ≡ no_parts false → ArePartsOf es S ps d
+no-parts es S ps d is = subst (ArePartsOf es S ps) (sym is) (record { paired = refl; typecodes_counted = refl; kept = λ w. absurd (false≢true w) })
 
 pub ok-both : {T E : Type 0} (r : Result T E) {P Q R : Type 0} → (P → Q → R) → OnOk r P → OnOk r Q → OnOk r R
 ok-both (Ok x) f p q = f p q

@@ -1,5 +1,6 @@
--- Reading an assertion that is stored, and its parts by numbers.
-use Rattle.frame.proofs.Words.{AllBelow, AreDescribed, AreGroupsOf, AreMandatoryPairs, AreReordered, Hypothesis, [], are_together, disjoint_symbols, filter, float_variables, groups_in, has_two_or_more_items, hypotheses, is_numbered_pair, kept_with, pairs_by, stored_pairs, sym, ◌∙◌, ap, subst, arith, ◌≡◌, ℕ, zero, suc, ◌+◌, ◌-◌, true, List, length, take, slice_get, Some, refl, Name, Stmt, expr_of, is_assertion, name_at, decode, HasAssertion, AssertionView, Entry, Assertion, IsWholeView, Kind, Axiom, Prove, Storage, AreBelow, AreListsOf, IsViewOf, IsWellTyped, HasLegalProperties, names_in, labels_in, stmt_by, stmt_of, statements_of, AreStored, IsKeptAs, has_parts}
+-- Reading an assertion that is stored, and its parts by numbers: those that are kept with it, or
+-- those that are made of its mandatory hypotheses.
+use Rattle.frame.proofs.Words.{AllBelow, Database, AreDescribed, AreGroupsOf, AreMandatoryPairs, AreReordered, Hypothesis, [], are_together, disjoint_symbols, filter, float_variables, groups_in, has_two_or_more_items, hypotheses, is_numbered_pair, pairs_by, stored_pairs, sym, ◌∙◌, ap, subst, arith, ◌≡◌, ℕ, zero, suc, ◌+◌, ◌-◌, true, List, length, take, slice_get, Some, refl, Stmt, expr_of, is_assertion, name_at, decode, HasAssertion, AssertionView, Entry, Assertion, IsWholeView, Storage, AreBelow, AreListsOf, IsViewOf, IsWellTyped, HasLegalProperties, names_in, labels_in, stmt_of, statements_of, AreStored, IsKeptAs}
 use Rattle.frame.specs.Sizes.{assertion_size}
 use Rattle.frame.proofs.DeclaredSymbolLemmas.{stored-distinct}
 use Rattle.frame.proofs.FoundByNumber.{map-back, own-expr, numbered-at}
@@ -8,14 +9,7 @@ use Rattle.frame.proofs.PairListLemmas.{pair-lists-same, pairs-below, reordered-
 use Rattle.frame.proofs.PairTableLemmas.{together-is}
 use Rattle.frame.proofs.WellTypedLemmas.{bound, bound-single}
 use Rattle.frame.proofs.LegalLabels.{legal-labels}
-
-parts-kind : (names labels : List Name) (e : Entry) → is_assertion (stmt_of names labels e) ≡ true → has_parts e.kind ≡ true
-parts-kind names labels e = by e.kind
-  where
-    by : (kind : Kind) → is_assertion (stmt_by kind (name_at labels e.label_count) (decode names e.symbols)) ≡ true → has_parts kind ≡ true
-    by Axiom h = refl
-    by Prove h = refl
-    by kind h = cc
+use Rattle.frame.proofs.AssertionLemmas.{kept-more}
 
 -- the entry of the assertion s, and the parts that are kept with it
 pub record IsThere (k : Storage) (a i : ℕ) (s : Stmt) (e : Entry) : Type 0 where
@@ -33,7 +27,8 @@ is-there k (suc i) s stored h =
     let is = sym e.2 in
     let back : i ≡ suc i - 1 = omega arith in
     let asserts = ap is_assertion is ∙ h.1 in
-    let kept = stored.kept.parts_kept i e.0 e.1 (parts-kind (names_in k) (labels_in k) e.0 asserts) in (
+    let own = stored.kept.each i e.0 e.1 in
+    let kept = kept-more (names_in k) (labels_in k) k.entries i (stmt_of (names_in k) (labels_in k) e.0) e.0.assertion own.parts in (
       i,
       e.0,
       record {
@@ -42,33 +37,37 @@ is-there k (suc i) s stored h =
         got = ap (slice_get k.entries) (sym back) ∙ e.1;
         is = is;
         kept = subst (λ n. IsKeptAs k.entries (take n (statements_of k)) s e.0.assertion) back (subst (λ t. IsKeptAs k.entries (take i (statements_of k)) t e.0.assertion) is kept);
-        size = (stored.kept.sizes_kept i e.0 e.1).is asserts ∙ (ap (assertion_size (take i (statements_of k))) is ∙ ap (λ n. assertion_size (take n (statements_of k)) s) back);
+        size = own.size.is asserts ∙ (ap (assertion_size (take i (statements_of k))) is ∙ ap (λ n. assertion_size (take n (statements_of k)) s) back);
       },
     )
 
--- the expression of the assertion, by numbers
-pub there-expr : (k : Storage) (a i : ℕ) (s : Stmt) (e : Entry) → AreStored k → is_assertion s ≡ true → IsThere k a i s e → (decode (names_in k) e.symbols ≡ expr_of s) × AreBelow (length (names_in k)) e.symbols
-there-expr k a i s e stored asserts t = (
-  sym (ap expr_of (sym t.is) ∙ own-expr (names_in k) e.kind (name_at (labels_in k) e.label_count) e.symbols (ap is_assertion t.is ∙ asserts)),
-  (numbered-at (length (names_in k)) (length (labels_in k)) k.entries i e stored.kept.coded t.here).0,
-)
+module _ (k : Storage) (a i : ℕ) (s : Stmt) (e : Entry) (stored : AreStored k) (asserts : is_assertion s ≡ true) (t : IsThere k a i s e) where
+  -- the statements earlier than the assertion
+  abbrev T : Database
+  T = take (a - 1) (statements_of k)
 
--- lists of its mandatory hypotheses describe the assertion
-pub there-lists : (k : Storage) (a i : ℕ) (s : Stmt) (e : Entry) (d : Assertion) → AreStored k → is_assertion s ≡ true → IsThere k a i s e
-    → AreDescribed k.entries (hypotheses (take (a - 1) (statements_of k)) s) d → AreListsOf (statements_of k) (names_in k) a d s
-there-lists k a i s e d stored asserts t described =
-    subst (λ x. AreListsOf (statements_of k) (names_in k) a d x) t.is
-    (kept-lists k.entries (names_in k) (labels_in k) (length (labels_in k)) a e d (stored-distinct k stored) stored.kept.coded stored.kept.legal (let q = t.place in omega (arith, q)) t.got (ap is_assertion t.is ∙ asserts)
-    (subst (λ x. AreDescribed k.entries (hypotheses (take (a - 1) (statements_of k)) x) d) (sym t.is) described))
+  -- the expression of the assertion, by numbers
+  pub there-expr : (decode (names_in k) e.symbols ≡ expr_of s) × AreBelow (length (names_in k)) e.symbols
+  there-expr = (
+    sym (ap expr_of (sym t.is) ∙ own-expr (names_in k) e.kind (name_at (labels_in k) e.label_count) e.symbols (ap is_assertion t.is ∙ asserts)),
+    (numbered-at (length (names_in k)) (length (labels_in k)) k.entries i e stored.kept.coded t.here).0,
+  )
 
--- the groups by the variables of its mandatory hypotheses are those of the assertion
-pub there-groups : (k : Storage) (a i : ℕ) (s : Stmt) (e : Entry) (d : Assertion) → AreStored k → is_assertion s ≡ true → IsThere k a i s e
-    → AreDescribed k.entries (hypotheses (take (a - 1) (statements_of k)) s) d
-    → AreGroupsOf (statements_of k) (names_in k) a s (groups_in (float_variables d.numbered_hypotheses) (disjoint_symbols k.entries (take (a - 1) (statements_of k))))
-there-groups k a i s e d stored asserts t described =
-    subst (λ x. AreGroupsOf (statements_of k) (names_in k) a x (groups_in (float_variables d.numbered_hypotheses) (disjoint_symbols k.entries (take (a - 1) (statements_of k))))) t.is
-    (kept-groups k.entries (names_in k) (labels_in k) (length (labels_in k)) a e d (stored-distinct k stored) stored.kept.coded stored.kept.legal (let q = t.place in omega (arith, q)) t.got (ap is_assertion t.is ∙ asserts)
-    (subst (λ x. AreDescribed k.entries (hypotheses (take (a - 1) (statements_of k)) x) d) (sym t.is) described))
+  -- lists made of all its mandatory hypotheses describe the assertion
+  module _ (ps : List ℕ) (d : Assertion) (are : AreDescribed k.entries ps d) (all : ps ≡ hypotheses T s) where
+    own-described : AreDescribed k.entries (hypotheses T (stmt_of (names_in k) (labels_in k) e)) d
+    own-described = subst (λ qs. AreDescribed k.entries qs d) (all ∙ ap (hypotheses T) (sym t.is)) are
+
+    pub there-lists : AreListsOf (statements_of k) (names_in k) a d s
+    there-lists =
+        subst (AreListsOf (statements_of k) (names_in k) a d) t.is
+        (kept-lists k.entries (names_in k) (labels_in k) (length (labels_in k)) a e d (stored-distinct k stored) stored.kept.coded stored.kept.legal (let q = t.place in omega (arith, q)) t.got (ap is_assertion t.is ∙ asserts) own-described)
+
+    -- the groups by their variables are those of the assertion
+    pub there-groups : AreGroupsOf (statements_of k) (names_in k) a s (groups_in (float_variables d.numbered_hypotheses) (disjoint_symbols k.entries T))
+    there-groups =
+        subst (λ x. AreGroupsOf (statements_of k) (names_in k) a x (groups_in (float_variables d.numbered_hypotheses) (disjoint_symbols k.entries T))) t.is
+        (kept-groups k.entries (names_in k) (labels_in k) (length (labels_in k)) a e d (stored-distinct k stored) stored.kept.coded stored.kept.legal (let q = t.place in omega (arith, q)) t.got (ap is_assertion t.is ∙ asserts) own-described)
 
 -- pairs by the symbols of the active `$d` are those by their names
 pub stored-pairs : (k : Storage) → AreStored k → (m : ℕ) (hs : List Hypothesis) → AreBelow (length (names_in k)) (float_variables hs)
@@ -82,9 +81,9 @@ pub there-cited : (k : Storage) (a i : ℕ) (s : Stmt) (e : Entry) (c : Assertio
 there-cited k a i s e c stored asserts t w =
     let x = there-expr k a i s e stored asserts t in
     let T = take (a - 1) (statements_of k) in
-    let described : AreDescribed k.entries (hypotheses T s) e.assertion = record { same = t.kept.hypotheses_kept ∙ ap (λ b. kept_with b T s) w.whole; numbered_made = t.kept.numbered_kept; typecodes_made = t.kept.typecodes_kept } in
-    let lists = there-lists k a i s e e.assertion stored asserts t described in
-    let pairs = subst (λ l. AreReordered l e.assertion.groups) (stored-pairs k stored (a - 1) e.assertion.numbered_hypotheses lists.variables.below) (t.kept.pairs_kept w.whole) in
+    let filled = t.kept w.whole in
+    let lists = there-lists k a i s e stored asserts t (hypotheses T s) e.assertion filled.described refl in
+    let pairs = subst (λ l. AreReordered l e.assertion.groups) (stored-pairs k stored (a - 1) e.assertion.numbered_hypotheses lists.variables.below) filled.pairs_made in
     lists-cited (statements_of k) (names_in k) a s e.assertion e.symbols lists x.0 x.1 c w.typecodes w.hypotheses w.conclusion
     (λ listed. subst (AreMandatoryPairs (record { statements = T; names = names_in k }) e.assertion.numbered_hypotheses) (sym w.pairs) pairs)
     (subst (AllBelow (length (names_in k))) (sym w.pairs) (reordered-below (length (names_in k)) _ e.assertion.groups pairs (pairs-below (length (names_in k)) (is_numbered_pair (record { statements = T; names = names_in k })) (float_variables e.assertion.numbered_hypotheses) lists.variables.below)))

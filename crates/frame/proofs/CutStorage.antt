@@ -1,11 +1,9 @@
 -- The storage after it is cut to its first statements, and after added statements are removed
 -- again.
-use Rattle.frame.proofs.Words.{sym, ◌∙◌, ap, subst, arith, take-take, ◌≡◌, ℕ, ◌+◌, ◌<◌, ◌≤◌, true, List, length, map, take, drop, slice_get, Some, refl, suc, [], ◌∷◌, Option, None, length-take-le, take-map, take-append-drop, take_at, length-map, Name, Database, IsNumberingOf, Declared, declared_symbols, declared_labels, stays_open, label_of, symbols_of, labels_of, prepend_option, LastActive, Entry, Disj, Var, last_active_of, stmt_of, statements_of, positions_from, AreAllLegal, AreGivenBy, replaced_of, last_float, names_in, labels_in, option_position, AreNumbered, KeepsCounts, HasMoreAtEnd, Storage, naming_of, AreKept, AreStored, Extends, has_parts, IsKeptAs, extends-length, extends-take, take-get, labels_of-append, AreKeptUntil}
-use Rattle.frame.specs.Stored.EntrySizes.{IsSizeOf}
+use Rattle.frame.proofs.Words.{sym, ◌∙◌, ap, subst, arith, take-take, ◌≡◌, ℕ, ◌+◌, ◌<◌, ◌≤◌, List, length, map, take, drop, slice_get, Some, refl, suc, [], ◌∷◌, Option, None, take-map, take-append-drop, take_at, length-map, Name, Database, IsNumberingOf, Declared, declared_symbols, declared_labels, stays_open, label_of, symbols_of, labels_of, prepend_option, LastActive, Entry, Disj, Var, last_active_of, stmt_of, statements_of, positions_from, AreAllLegal, names_in, labels_in, option_position, AreNumbered, HasMoreAtEnd, Storage, naming_of, AreKept, AreStored, Extends, extends-length, extends-take, take-get, labels_of-append, AreKeptUntil, IsEntryAfter}
+use Rattle.frame.proofs.FloatLemmas.{floats-back}
 use Rattle.frame.proofs.TableLemmas.{table-back}
-use Rattle.frame.proofs.BlockWalkLemmas.{get-take}
 use Rattle.frame.proofs.DeclaredSymbolLemmas.{symbols_of-front}
-use Rattle.frame.proofs.AssertionLemmas.{kept-moved}
 use Rattle.frame.proofs.FoundByNumber.{kept-front}
 use Rattle.frame.proofs.NamingLemmas.{naming-all, naming-length, naming_of-front}
 use Rattle.frame.proofs.OpenLemmas.{stays_open-front}
@@ -35,29 +33,25 @@ positions-front n S =
 
 -- ---- the parts after the cut, where e is the entry after the first n
 
-pub record IsCut (names labels : List Name) (positions : List ℕ) (floats : List ℕ) (entries : List Entry)
-    (names' labels' : List Name) (positions' : List ℕ) (between floats' replaced' : List ℕ) (entries' : List Entry) (links' : LastActive) (n : ℕ) (e : Entry) : Type 0 where
+pub record IsCut (names labels : List Name) (positions : List ℕ) (entries : List Entry)
+    (names' labels' : List Name) (positions' : List ℕ) (entries' : List Entry) (links' : LastActive) (n : ℕ) (e : Entry) : Type 0 where
   pub at : slice_get entries n ≡ Some e
   pub names_cut : names' ≡ symbols_of (take n (map (stmt_of names labels) entries))
   pub labels_cut : labels' ≡ labels_of (take n (map (stmt_of names labels) entries))
   pub positions_cut : positions' ≡ take e.label_count positions
-  pub between_count : length between ≡ length floats
-  pub floats_cut : floats' ≡ take e.symbol_count between
   pub entries_cut : entries' ≡ take n entries
-  pub declared : AreGivenBy between (last_float entries')
-  pub recorded : replaced' ≡ replaced_of entries'
   pub last_active_back : links' ≡ e.last_active
 
-module _ {names labels : List Name} {positions : List ℕ} {floats replaced : List ℕ} {entries : List Entry} {last_active : LastActive}
-    {names' labels' : List Name} {positions' : List ℕ} {between floats' replaced' : List ℕ} {entries' : List Entry} {links' : LastActive} {n : ℕ} {e : Entry}
-    (k : AreKept names labels positions floats replaced entries last_active)
-    (p : IsCut names labels positions floats entries names' labels' positions' between floats' replaced' entries' links' n e) where
+module _ {names labels : List Name} {positions : List ℕ} {entries : List Entry} {last_active : LastActive}
+    {names' labels' : List Name} {positions' : List ℕ} {entries' : List Entry} {links' : LastActive} {n : ℕ} {e : Entry}
+    (k : AreKept names labels positions entries last_active)
+    (p : IsCut names labels positions entries names' labels' positions' entries' links' n e) where
   abbrev pub S : Database
   S = map (stmt_of names labels) entries
 
   -- the entry after the first n has the counts of the names and labels before it
-  counts : KeepsCounts names labels entries n e
-  counts = k.counts_kept n e p.at
+  counts : IsEntryAfter (take n entries) (take n S) (stmt_of names labels e) e
+  counts = k.each n e p.at
 
   pub names-front : Extends names' names
   names-front =
@@ -94,45 +88,18 @@ module _ {names labels : List Name} {positions : List ℕ} {floats replaced : Li
   there : (i : ℕ) (d : Entry) → slice_get entries' i ≡ Some d → (i < n) × (slice_get entries i ≡ Some d)
   there i d h = take-get n i entries d (ap (λ r. slice_get r i) (sym p.entries_cut) ∙ h)
 
-  -- each symbol that remains has the last of its `$f` that remain
-  floats'' : (c : ℕ) → c < length names' → slice_get floats' c ≡ Some (last_float entries' c)
-  floats'' c lt =
-      let a = names-count in let b = p.between_count in let d = k.count in let w = within in
-      ap (λ r. slice_get r c) p.floats_cut ∙ (get-take c e.symbol_count between (omega (arith, lt, a)) ∙ p.declared c (omega (arith, lt, a, b, d, w)))
-
-  -- an entry that remains has the counts of the names and labels before it
-  counts' : (i : ℕ) (d : Entry) → slice_get entries' i ≡ Some d → KeepsCounts names' labels' entries' i d
-  counts' i d h =
-      let q = there i d h in
-      let lt = q.0 in
-      let c = k.counts_kept i d q.1 in
-      record {
-        numbered = subst (AreNumbered d.symbol_count d.label_count) (sym (ap (take i) p.entries_cut ∙ take-take i n entries (omega (arith, lt)))) c.numbered;
-        label_count = c.label_count ∙ ap (λ T. length (labels_of T)) (sym (front-of i lt));
-        name_count = c.name_count ∙ ap (λ T. length (symbols_of T)) (sym (front-of i lt));
-      }
-
-  -- an assertion that remains is kept as it was
-  parts' : (i : ℕ) (d : Entry) → slice_get entries' i ≡ Some d → has_parts d.kind ≡ true → IsKeptAs entries' (take i (map (stmt_of names' labels') entries')) (stmt_of names' labels' d) d.assertion
-  parts' i d h a =
+  -- an entry that remains is as it was after the entries before it
+  each' : (i : ℕ) (d : Entry) → slice_get entries' i ≡ Some d → IsEntryAfter (take i entries') (take i (map (stmt_of names' labels') entries')) (stmt_of names' labels' d) d
+  each' i d h =
       let q = there i d h in
       let lt = q.0 in
       let here = ap (λ r. slice_get r i) (sym p.entries_cut) ∙ h in
       let same : stmt_of names labels d ≡ stmt_of names' labels' d =
       stmt-more names' names labels' labels d names-front labels-extend (numbered-at (length names') (length labels') (take n entries) numbered i d here) (label-below-at (length names') (length labels') (take n entries) numbered i d here) in
-      rw (front-of i lt, ← same, p.entries_cut)
-      (kept-moved names labels entries (take n entries) i (stmt_of names labels d) d.assertion (sym (take-take i n entries (omega (arith, lt)))) (k.parts_kept i d q.1 a))
+      let front : take i entries' ≡ take i entries = ap (take i) p.entries_cut ∙ take-take i n entries (omega (arith, lt)) in
+      rw (front, front-of i lt, ← same) (k.each i d q.1)
 
-  -- an assertion that remains has its size
-  sizes' : (i : ℕ) (d : Entry) → slice_get entries' i ≡ Some d → IsSizeOf (take i (map (stmt_of names' labels') entries')) (stmt_of names' labels' d) d.size
-  sizes' i d h =
-      let q = there i d h in
-      let here = ap (λ r. slice_get r i) (sym p.entries_cut) ∙ h in
-      let same : stmt_of names labels d ≡ stmt_of names' labels' d =
-      stmt-more names' names labels' labels d names-front labels-extend (numbered-at (length names') (length labels') (take n entries) numbered i d here) (label-below-at (length names') (length labels') (take n entries) numbered i d here) in
-      rw (front-of i q.0, ← same) (k.sizes_kept i d q.1)
-
-  pub kept-cut : AreKept names' labels' positions' floats' replaced' entries' links'
+  pub kept-cut : AreKept names' labels' positions' entries' links'
   kept-cut = record {
     last = p.last_active_back ∙ (k.linked n e p.at ∙ ap last_active_of (sym cut-statements));
     linked = λ i d h. let q = there i d h in k.linked i d q.1 ∙ ap last_active_of (sym (front-of i q.0));
@@ -142,16 +109,8 @@ module _ {names labels : List Name} {positions : List ℕ} {floats replaced : Li
     labels_kept = p.labels_cut ∙ ap labels_of (sym cut-statements);
     positions_kept = p.positions_cut ∙ (ap (take e.label_count) k.positions_kept ∙ (ap (λ m. take m (positions_from 1 S)) counts.label_count ∙ (positions-front n S ∙ ap (positions_from 1) (sym cut-statements))));
     coded = subst (AreNumbered (length names') (length labels')) (sym p.entries_cut) numbered;
-    floats_kept = floats'';
-    replaced_kept = p.recorded;
-    counts_kept = counts';
-    count =
-        let a = names-count in let b = p.between_count in let d = k.count in let w = within in
-        let c : length floats' ≡ e.symbol_count = ap length p.floats_cut ∙ length-take-le e.symbol_count between (omega (arith, b, d, w)) in
-        c ∙ sym a;
+    each = each';
     few = let a = names-count in let f = k.few in omega (arith, a, within, f);
-    parts_kept = parts';
-    sizes_kept = sizes';
   }
 
 -- ---- the numbering of the first statements
@@ -163,7 +122,7 @@ module _ (k : Storage) (n : ℕ) (e : Entry) (stored : AreStored k) (at : slice_
   -- the entry after the first n has the count of the names before it
   pub numbering-front : take (e.symbol_count + e.label_count) k.numbering ≡ naming_of (take n (statements_of k))
   numbering-front =
-      let counts = stored.kept.counts_kept n e at in
+      let counts = stored.kept.each n e at in
       let all = naming-length (take n (statements_of k)) (naming_of (take n (statements_of k))) front-naming in
       let count : e.symbol_count + e.label_count ≡ length (naming_of (take n (statements_of k))) = omega (arith, counts.name_count, counts.label_count, all) in
       ap (take (e.symbol_count + e.label_count)) stored.numbered ∙ (ap (λ m. take m (naming_of (statements_of k))) count ∙ naming_of-front n (statements_of k))
@@ -174,17 +133,16 @@ module _ (k : Storage) (n : ℕ) (e : Entry) (stored : AreStored k) (at : slice_
 pub record IsTakenBack (old mid new : Storage) : Type 0 where
   pub after : HasMoreAtEnd old mid
   pub numbering_cut : new.numbering ≡ take (length old.numbering) mid.numbering
-  pub floats_cut : new.floats.items ≡ take (length (names_in new)) mid.floats.items
   pub positions_cut : new.positions.items ≡ take (length (labels_in new)) mid.positions.items
-  pub replaced_cut : new.replaced.items ≡ take (length old.replaced.items) mid.replaced.items
   pub ends_cut : new.ends.items ≡ take (length mid.entries) mid.ends.items
   pub entries_cut : new.entries ≡ mid.entries
+  pub floats_cut : AreKeptUntil (length mid.entries) mid.floats new.floats
   pub disjoints_cut : AreKeptUntil (length mid.entries) mid.disjoints new.disjoints
   pub variables_cut : AreKeptUntil (length mid.entries) mid.variables new.variables
   pub last_active_cut : new.last_active ≡ mid.last_active
 
 module _ (old mid new : Storage) (stored : AreStored old) (t : IsTakenBack old mid new) where
-  k : AreKept (names_in old) (labels_in old) old.positions.items old.floats.items old.replaced.items old.entries old.last_active
+  k : AreKept (names_in old) (labels_in old) old.positions.items old.entries old.last_active
   k = stored.kept
 
   back-numbering : new.numbering ≡ old.numbering
@@ -206,21 +164,18 @@ module _ (old mid new : Storage) (stored : AreStored old) (t : IsTakenBack old m
 
   pub back-stored : AreStored new
   back-stored =
-      let z = t.after.floats in
-      let many : length (names_in new) ≡ length old.floats.items = ap length back-names ∙ sym k.count in
       let labels : length (labels_in new) ≡ length old.positions.items =
       ap length (back-labels ∙ k.labels_kept) ∙ (sym (length-positions 1 (statements_of old)) ∙ ap length (sym k.positions_kept)) in
       let all : length mid.entries ≡ length old.ends.items = ap length t.after.entries ∙ (sym (length-map old.entries (stmt_of (names_in old) (labels_in old))) ∙ sym stored.ended.count) in
       let ends : new.ends.items ≡ old.ends.items = t.ends_cut ∙ (ap (λ m. take m mid.ends.items) all ∙ take-extends old.ends.items mid.ends.items t.after.ends) in
       let positions : new.positions.items ≡ old.positions.items =
       t.positions_cut ∙ (ap (λ m. take m mid.positions.items) labels ∙ take-extends old.positions.items mid.positions.items t.after.positions) in
-      let floats : new.floats.items ≡ old.floats.items = t.floats_cut ∙ (ap (λ m. take m mid.floats.items) many ∙ take-extends old.floats.items mid.floats.items (z.0, z.1)) in
       let long : length mid.entries ≡ length old.entries = ap length t.after.entries in
-      let replaced : new.replaced.items ≡ old.replaced.items = t.replaced_cut ∙ take-extends old.replaced.items mid.replaced.items t.after.replaced in
       record {
-        kept = rw (back-names, back-labels, positions, floats, replaced, back-entries, t.last_active_cut, t.after.last_active) k;
+        kept = rw (back-names, back-labels, positions, back-entries, t.last_active_cut, t.after.last_active) k;
         numbered = back-numbering ∙ (stored.numbered ∙ ap naming_of (sym back-statements));
         ended = rw (back-statements, ends) stored.ended;
+        floats = rw back-entries (floats-back old.entries old.floats mid.floats new.floats stored.floats t.after.floats (subst (λ m. AreKeptUntil m mid.floats new.floats) long t.floats_cut));
         disjoints = rw back-entries (table-back Disj old.entries old.disjoints mid.disjoints new.disjoints stored.disjoints t.after.disjoints (subst (λ m. AreKeptUntil m mid.disjoints new.disjoints) long t.disjoints_cut));
         variables = rw back-entries (table-back Var old.entries old.variables mid.variables new.variables stored.variables t.after.variables (subst (λ m. AreKeptUntil m mid.variables new.variables) long t.variables_cut));
       }

@@ -1,5 +1,5 @@
 -- What the disjoint variable condition of a citation counts by numbers is its disjointness.
-use Rattle.frame.proofs.Words.{and-false, or-false, ◌≡◌, ℕ, zero, suc, ◌+◌, ◌<◌, ◌≤◌, ◌==◌, Bool, true, false, cond, not, ◌&&◌, ◌||◌, List, [], ◌∷◌, ◌++◌, length, filter, refl, sym, ◌∙◌, ap, subst, arith, true≢false, append_assoc, length-map, map-append, list_any, list_any-map, or_left, or_right, or_parts, and_parts, Name, name_eq, has_name, name_same, Stmt, Database, name_at, decode, AreDistinct, AreBelow, CodeImages, Images, image, images_of_names, is_mandatory, Hypothesis, Numbered, is_numbered_pair, has_number, float_variables, pair_lists, pairs_by, has_two_or_more_items, IsEachOnce, IsPairList, IsReordered, AreReordered, AreMandatoryPairs}
+use Rattle.frame.proofs.Words.{and-false, and-true, or-false, ◌≡◌, ℕ, zero, suc, ◌+◌, ◌<◌, ◌==◌, Bool, true, false, cond, not, ◌&&◌, ◌||◌, List, [], ◌∷◌, ◌++◌, length, filter, refl, sym, ◌∙◌, ap, subst, arith, true≢false, append_assoc, length-map, map-append, list_any, list_any-map, or_left, or_right, or_parts, and_parts, Name, name_eq, has_name, name_same, Stmt, Database, name_at, decode, AreDistinct, AreBelow, CodeImages, Images, image, images_of_names, is_mandatory, Hypothesis, Numbered, is_numbered_pair, has_number, float_variables, pair_lists, pairs_by, has_two_or_more_items, IsEachOnce, IsReordered, AreReordered, AreMandatoryPairs}
 use Rattle.std.specs.List.{sum_by}
 use Rattle.std.proofs.lemmas.List.Sums.{sum_by-append, sum_by-cons}
 use Rattle.scope.specs.Active.{typed_variables}
@@ -13,8 +13,9 @@ use Rattle.frame.proofs.KindWalk.{not-has, same-number}
 use Rattle.frame.proofs.MandatoryVariableLemmas.{floats-once}
 use Rattle.frame.proofs.NewNumberLemmas.{new-append, new-has, new-once}
 use Rattle.frame.proofs.PairLawLemmas.{eq-turn, pair-none, pair-turn}
-use Rattle.frame.proofs.PairListLemmas.{AreAdded, added-all, added-more, added-none, below-push, filter-below, filter-has, filter-named, has-append, own, turn}
+use Rattle.frame.proofs.PairListLemmas.{filter-below, filter-has, filter-named, has-append, own, turn}
 use Rattle.frame.proofs.SumLemmas.{but-absent, filter-once, sum-below, sum-map, sum-once}
+use Rattle.frame.proofs.SymbolNumberLemmas.{below-push}
 
 -- ---- lists of numbers
 
@@ -71,14 +72,12 @@ flat-has (l ∷ lists) c = has-append l (flat lists) c ∙ ap (λ b. has_number 
 
 reordered-any : (L lists : List (List ℕ)) (c : ℕ) → AreReordered L lists → list_any (λ l. has_number l c) lists ≡ list_any (λ l. has_number l c) L
 reordered-any [] [] c are = refl
-reordered-any [] (m ∷ lists) c are = absurd are
-reordered-any (l ∷ L) [] c are = absurd are
 reordered-any (l ∷ L) (m ∷ lists) c are = ap (λ b. b || list_any (λ k. has_number k c) lists) (one l m are.0) ∙ ap (λ b. has_number l c || b) (reordered-any L lists c are.1)
   where
     one : (l m : List ℕ) → IsReordered l m → has_number m c ≡ has_number l c
-    one [] m is = absurd is
-    one (x ∷ xs) [] is = absurd is
     one (x ∷ xs) (y ∷ ys) is = ap (λ z. (z == c) || has_number ys c) is.0 ∙ ap (λ b. (x == c) || b) (is.1.each c)
+    one l m is = absurd is
+reordered-any L lists c are = absurd are
 
 some-passes : (test : ℕ → Bool) (c : ℕ) (ys : List ℕ) → test c ≡ true → has_number ys c ≡ true → list_any test ys ≡ true
 some-passes test c [] passes h = absurd (true≢false (sym h))
@@ -131,15 +130,11 @@ pairs-any p none flips c before (x ∷ xs) =
         absorbed a true h = ap (λ t. t && true) (h refl)
         absorbed a false h = and-false a
 
-        all : (a : Bool) → (a && true) ≡ (a || (false && has_number before c))
-        all true = refl
-        all false = refl
-
         by : (b : Bool) → (x == c) ≡ b → (list_any (p x) before && (b || (p c x && has_number before c))) ≡ ((b && list_any (p c) before) || (p c x && has_number before c))
         by true e =
             let same : x ≡ c = grind (arith, e) in
             let never : p c x ≡ false = ap (p c) same ∙ none c in
-            all (list_any (p x) before) ∙ (ap (λ b. list_any (p x) before || (b && has_number before c)) (sym never) ∙ ap (λ z. list_any (p z) before || (p c x && has_number before c)) same)
+            and-true (list_any (p x) before) ∙ (sym (or-false (list_any (p x) before)) ∙ (ap (λ b. list_any (p x) before || (b && has_number before c)) (sym never) ∙ ap (λ z. list_any (p z) before || (p c x && has_number before c)) same))
         by false e = absorbed (list_any (p x) before) (p c x && has_number before c) (λ h. let q = and_parts (p c x) (has_number before c) h in some-passes (p x) c before (flips x c ∙ q.0) q.1)
 
     any-push : list_any (p c) (before ++ x ∷ []) ≡ (list_any (p c) before || p c x)
@@ -278,10 +273,7 @@ module _ (v : Numbered) (σ : CodeImages) (distinct : AreDistinct v.names) (over
 
     -- the mandatory pairs of mandatory variables are the pairs
     both : (x y : ℕ) → is_mandatory A s (name_at N x) ≡ true → is_mandatory A s (name_at N y) ≡ true → is_mandatory_pair A s (name_at N x) (name_at N y) ≡ pair x y
-    both x y a b = ap (λ t. (pair x y && t) && is_mandatory A s (name_at N y)) a ∙ (ap (λ t. (pair x y && true) && t) b ∙ last (pair x y))
-      where
-        last : (t : Bool) → ((t && true) && true) ≡ t
-        last t = grind arith
+    both x y a b = ap (λ t. (pair x y && t) && is_mandatory A s (name_at N y)) a ∙ (ap (λ t. (pair x y && true) && t) b ∙ (and-true (pair x y && true) ∙ and-true (pair x y)))
 
     pairs-before : (x : ℕ) (before : List ℕ) → is_mandatory A s (name_at N x) ≡ true → ((y : ℕ) → has_number before y ≡ true → is_mandatory A s (name_at N y) ≡ true)
         → filter (is_mandatory_pair A s (name_at N x)) (decode N before) ≡ decode N (filter (pair x) before)
@@ -325,20 +317,18 @@ module _ (v : Numbered) (σ : CodeImages) (distinct : AreDistinct v.names) (over
   -- the order of the others does not count
   reordered-sum : (L lists : List (List ℕ)) → AreTailsOnce L → AreReordered L lists → sum_by (list_work v σ) lists ≡ sum_by (list_work v σ) L
   reordered-sum [] [] once are = refl
-  reordered-sum [] (m ∷ lists) once are = absurd are
-  reordered-sum (l ∷ L) [] once are = absurd are
   reordered-sum (l ∷ L) (m ∷ lists) once are =
       sum_by-cons (list_work v σ) m lists
       ∙ (ap (λ n. n + sum_by (list_work v σ) lists) (one l m once.0 are.0) ∙ (ap (λ n. list_work v σ l + n) (reordered-sum L lists once.1 are.1) ∙ sym (sum_by-cons (list_work v σ) l L)))
     where
       one : (l m : List ℕ) → IsTailOnce l → IsReordered l m → list_work v σ m ≡ list_work v σ l
-      one [] m tail is = absurd is
-      one (x ∷ xs) [] tail is = absurd is
       one (x ∷ xs) (y ∷ ys) tail is =
           ap (λ z. list_work v σ (z ∷ ys)) is.0
           ∙ ap (λ n. sum_by (λ u. numbered_row v u + n) (image_variables v σ x))
           (sum-once (λ z. length (image_variables v σ z)) (numbers_but x xs) (numbers_but x ys) (filter-once (λ z. not (x == z)) xs tail) (filter-once (λ z. not (x == z)) ys is.1.once)
           (λ c. filter-has (λ z. not (x == z)) ys c ∙ (ap (λ b. not (x == c) && b) (is.1.each c) ∙ sym (filter-has (λ z. not (x == z)) xs c))))
+      one l m tail is = absurd is
+  reordered-sum L lists once are = absurd are
 
   -- the images are read where their numbers are first met
   read-first : (read : List ℕ) (lists : List (List ℕ)) → lists_work_after v σ read lists ≡ images_length σ (new_numbers read (flat lists)) + sum_by (list_work v σ) lists
@@ -375,20 +365,12 @@ module _ (v : Numbered) (σ : CodeImages) (distinct : AreDistinct v.names) (over
         ∙ (first (has_number variables c) (list_any (pair A s c) variables)
         ∙ (by (has_number variables c) refl ∙ sym (filter-has has_a_pair variables c)))))))
       where
-        and-true : (b : Bool) → (b && not false) ≡ b
-        and-true true = refl
-        and-true false = refl
-
         first : (h p : Bool) → ((h && false) || ((false && p) || (h && p))) ≡ (h && p)
         first true p = refl
         first false p = refl
 
-        last : (b : Bool) → b ≡ (b && true)
-        last true = refl
-        last false = refl
-
         by : (h : Bool) → has_number variables c ≡ h → (h && list_any (pair A s c) variables) ≡ (has_a_pair c && h)
-        by true e = sym (pair-number c (known c e)) ∙ last (has_a_pair c)
+        by true e = sym (pair-number c (known c e)) ∙ sym (and-true (has_a_pair c))
         by false e = sym (and-false (has_a_pair c))
 
     images-named : image_work A s named_images ≡ images_length σ (filter has_a_pair variables)
@@ -426,47 +408,3 @@ pub lists-disjointness : (v : Numbered) (σ : CodeImages) (A : Database) (s : St
     → AreDistinct v.names → ((n : ℕ) → n < length v.names → AreBelow (length v.names) (code_image σ n)) → AreBelow (length v.names) (float_variables hs) → decode v.names (float_variables hs) ≡ mandatory_variables A s
     → AreMandatoryPairs (record { statements = A; names = v.names }) hs lists → lists_work v σ lists ≡ disjointness A s v.statements (images_of_names v.names σ)
 lists-disjointness v σ A s hs lists distinct over low named are = counted v σ distinct over A s (float_variables hs) lists low (floats-once hs) named are
-
--- ---- the lists are made one by one
-
--- of the first n variables of an assertion the lists with others were counted, where w has the
--- statements before it
-pub record AreCounted (v : Numbered) (σ : CodeImages) (w : Numbered) (variables : List ℕ) (n : ℕ) (read : List ℕ) (work : ℕ) : Type 0 where
-  pub made : List (List ℕ)
-  pub added : AreAdded (is_numbered_pair w) variables n made
-  pub all_read : read ≡ read_all [] made
-  pub all_work : work ≡ lists_work v σ made
-
-pub counted-none : (v : Numbered) (σ : CodeImages) (w : Numbered) (variables : List ℕ) → AreCounted v σ w variables 0 [] 0
-counted-none v σ w variables = record { made = []; added = added-none (is_numbered_pair w) variables [] refl; all_read = refl; all_work = refl }
-
--- the next list has others
-pub counted-more : (v : Numbered) (σ : CodeImages) (w : Numbered) (variables : List ℕ) (n : ℕ) (read : List ℕ) (work : ℕ) (list : List ℕ) → AreCounted v σ w variables n read work → IsPairList w variables n list
-    → has_two_or_more_items list ≡ true → AreCounted v σ w variables (n + 1) (read_after read list) (work + list_work_after v σ read list)
-counted-more v σ w variables n read work list c is two = record {
-  made = c.made ++ list ∷ [];
-  added = subst (AreAdded (is_numbered_pair w) variables (n + 1)) (ap (λ b. cond b (c.made ++ list ∷ []) c.made) two) (added-more w variables n c.made list c.added is);
-  all_read = ap (λ r. read_after r list) c.all_read ∙ sym (read-push [] c.made list);
-  all_work =
-      let a = c.all_work in
-      let b = ap (λ r. list_work_after v σ r list) c.all_read in
-      let d = work-push v σ [] c.made list in
-      omega (arith, a, b, d);
-}
-
--- the next list has none, and counts nothing
-pub counted-fewer : (v : Numbered) (σ : CodeImages) (w : Numbered) (variables : List ℕ) (n : ℕ) (read : List ℕ) (work : ℕ) (list : List ℕ) → AreCounted v σ w variables n read work → IsPairList w variables n list
-    → has_two_or_more_items list ≡ false → AreCounted v σ w variables (n + 1) read work
-counted-fewer v σ w variables n read work list c is two = record {
-  made = c.made;
-  added = subst (AreAdded (is_numbered_pair w) variables (n + 1)) (ap (λ b. cond b (c.made ++ list ∷ []) c.made) two) (added-more w variables n c.made list c.added is);
-  all_read = c.all_read;
-  all_work = c.all_work;
-}
-
--- all lists were counted
-pub counted-all : (v : Numbered) (σ : CodeImages) (A : Database) (s : Stmt) (hs : List Hypothesis) (n : ℕ) (read : List ℕ) (work : ℕ)
-    → AreDistinct v.names → ((n : ℕ) → n < length v.names → AreBelow (length v.names) (code_image σ n)) → AreBelow (length v.names) (float_variables hs) → decode v.names (float_variables hs) ≡ mandatory_variables A s
-    → length (float_variables hs) ≤ n → AreCounted v σ (record { statements = A; names = v.names }) (float_variables hs) n read work → work ≡ disjointness A s v.statements (images_of_names v.names σ)
-counted-all v σ A s hs n read work distinct over low named enough c =
-    c.all_work ∙ lists-disjointness v σ A s hs c.made distinct over low named (added-all (is_numbered_pair (record { statements = A; names = v.names })) (float_variables hs) n c.made enough c.added)

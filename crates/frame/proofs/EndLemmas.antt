@@ -266,17 +266,14 @@ block-fits es S i n e told g size =
     let lt = slice_get_within es i e g in
     omega (arith, told.blocks i e g, last-within is_open (take i S) refl, lt, length-take-le i S (omega (arith, lt, told.count)), told.count, size)
 
-pub ends-taken : (es front all : List Entry) (S : Database) (e : Entry) (ends ends' : List ℕ) → AreBlocks es S → all ≡ front ++ e ∷ [] → slice_get es (length front) ≡ Some e → length S ≡ length ends
-    → AreBlockEnds ends (take (length all) S) → ends' ≡ with_end e.kind e.last_active.block 0 ends → AreBlockEnds ends' (take (length front) S)
-ends-taken es front all S e ends ends' blocks is here size told recorded =
-    let i = length front in
+pub ends-taken : (es : List Entry) (S : Database) (i : ℕ) (e : Entry) (ends ends' : List ℕ) → AreBlocks es S → slice_get es i ≡ Some e → length S ≡ length ends → AreBlockEnds ends (take (suc i) S)
+    → ends' ≡ with_end e.kind e.last_active.block 0 ends → AreBlockEnds ends' (take i S)
+ends-taken es S i e ends ends' blocks here size told recorded =
     let below : i < length S = omega (arith, slice_get_within es i e here, blocks.count) in
     let s = get_or S i Open in
     let g : slice_get S i ≡ Some s = slice_get-get_or S i Open below in
-    let one : length all ≡ suc i = omega (arith, ap length is, length-append front (e ∷ [])) in
-    let more : take (length all) S ≡ take i S ++ s ∷ [] = ap (λ k. take k S) one ∙ take-one S i s g in
     rw (recorded, blocks.kinds i e s here g)
-    (tells-less ends (take i S) s e.last_active.block (omega (arith, length-take-le i S (omega (arith, below)), below, size)) (subst (AreBlockEnds ends) more told) (blocks.blocks i e here))
+    (tells-less ends (take i S) s e.last_active.block (omega (arith, length-take-le i S (omega (arith, below)), below, size)) (subst (AreBlockEnds ends) (take-one S i s g) told) (blocks.blocks i e here))
 
 kind-by : (q : Kind) (label : Name) (names : List Name) → q ≡ kind_of (stmt_by q label names)
 kind-by kind.Open label names = refl

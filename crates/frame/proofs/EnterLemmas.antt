@@ -1,11 +1,9 @@
 -- A statement is entered: the new entry has its meaning, and the storage has its parts.
-use Rattle.frame.proofs.Words.{sym, ◌∙◌, ap, subst, arith, length-append, inl, inr, ◌≡◌, ℕ, List, [], ◌∷◌, ◌++◌, length, take, slice_get, Option, Some, true, refl, ◌+◌, ◌<◌, ◌⊎◌, map, length-map, take-append-le, map_push, same_Some, take-append_seam, name_at-last, Name, Stmt, Database, bare, label_of, expr_of, is_assertion, is_essential, stays_open, declared_with, IsRecordedBy, IsLegal, name_at, decode, with_names, symbols_declared_by, symbols_in, symbols_of, symbols_after, labels_of, prepend_option, AreNumbers, AreVariableNumbers, AreRecorded, IsNumberingOf, numbering-after, recorded-after, symbols_of-append, labels_of-append, AreBelow, Assertion, Entry, entry_by, Kind, Ess, Storage, names_in, labels_in, stmt_by, stmt_of, statements_of, option_position, AreGivenBy, positions_from, AreAllLegal, AreStored, IsKeptOf, AreKept, floats_in, kept_with, has_parts, IsKeptAs, is_labelled_kind, kind_of, IsLabelBelow, HasTwoSymbolsIfFloat, HasMoreNames, HasRoom, AreNumbered, KeepsCounts, LastActive, last_active_of, naming_of, get-last, Extends, get-push, extends-length, bare-same, symbols_declared_by-bare, declared_with-bare, legal-bare, EntryHeader, IsEntryHeader, option_float, typed_by, with_float, last_float}
-use Rattle.frame.specs.Stored.EntrySizes.{IsSizeOf}
+use Rattle.frame.proofs.Words.{sym, ◌∙◌, ap, subst, arith, length-append, inl, inr, ◌≡◌, ℕ, List, [], ◌∷◌, ◌++◌, length, take, slice_get, Option, Some, true, refl, ◌+◌, ◌<◌, ◌⊎◌, map, length-map, take-append-le, map_push, same_Some, take-append_seam, name_at-last, Name, Stmt, Database, bare, label_of, expr_of, stays_open, declared_with, IsRecordedBy, IsLegal, name_at, decode, with_names, symbols_declared_by, symbols_in, symbols_of, symbols_after, labels_of, prepend_option, AreNumbers, AreVariableNumbers, AreRecorded, IsNumberingOf, numbering-after, recorded-after, symbols_of-append, labels_of-append, AreBelow, Assertion, Entry, entry_by, Storage, names_in, labels_in, stmt_by, stmt_of, statements_of, option_position, positions_from, AreAllLegal, AreStored, IsKeptOf, AreKept, is_labelled_kind, kind_of, IsLabelBelow, HasTwoSymbolsIfFloat, HasMoreNames, AreNumbered, LastActive, last_active_of, naming_of, get-last, Extends, get-push, extends-length, bare-same, symbols_declared_by-bare, declared_with-bare, legal-bare, EntryHeader, IsEntryHeader, IsEntryAfter, is_assertion}
+use Rattle.std.specs.Prelude.{◌^◌}
 use Rattle.frame.proofs.DeclaredSymbolLemmas.{codes-below}
 use Rattle.frame.proofs.NamingLemmas.{stored-naming, naming_of-append, symbols-extend}
-use Rattle.frame.proofs.StoredOneMore.{still-reads, numbered-at, statements-more, stmt-more, numbered-push, positions_from-push, legal-push, stays-push}
-use Rattle.frame.proofs.DeclareLemmas.{last_float-push, replaced_of-push}
-use Rattle.frame.proofs.AssertionLemmas.{kept-more, kept-moved}
+use Rattle.frame.proofs.StoredOneMore.{numbered-at, statements-more, stmt-more, numbered-push, positions_from-push, legal-push, stays-push}
 use Rattle.frame.proofs.LabelLemmas.{label-below-at}
 use Rattle.mm_read.specs.declared.stmt.Stmt.TheVariants as stmt
 
@@ -35,17 +33,12 @@ label_of-bare s = bare-same label_of (λ l e p. refl) s
 pub kind_of-bare : (s : Stmt) → kind_of (bare s) ≡ kind_of s
 kind_of-bare s = bare-same kind_of (λ l e p. refl) s
 
--- the numbers of an assertion or `$e` are those of the symbols of its expression
-pub next-bare : (k : Storage) (codes : List ℕ) (s : Stmt) → has_parts (kind_of s) ≡ true → AreNumbers (with_names (names_in k) (symbols_declared_by s)) (symbols_in s) codes
+-- the numbers of an assertion are those of the symbols of its expression
+pub next-bare : (k : Storage) (codes : List ℕ) (s : Stmt) → is_assertion s ≡ true → AreNumbers (with_names (names_in k) (symbols_declared_by s)) (symbols_in s) codes
     → AreBelow (length (names_in k)) codes × (decode (names_in k) codes ≡ expr_of (bare s))
 next-bare k codes (stmt.Axiom label expr) a n = (codes-below (names_in k) codes n.0, n.1)
 next-bare k codes (stmt.Prove label expr proof) a n = (codes-below (names_in k) codes n.0, n.1)
-next-bare k codes (stmt.Ess label expr) a n = (codes-below (names_in k) codes n.0, n.1)
 next-bare k codes s a n = cc
-
-pub essential-bare : (s : Stmt) → is_essential (bare s) ≡ is_essential s
-essential-bare (stmt.Prove label expr proof) = refl
-essential-bare s = refl
 
 -- the entry's header, the declarations of the statement, and its numbers as recorded before and
 -- after
@@ -92,21 +85,6 @@ module _ (old new : Storage) (s : Stmt) (h : EntryHeader) (before after : Option
   pub entered-two : HasTwoSymbolsIfFloat h.kind codes
   entered-two = subst (λ q. HasTwoSymbolsIfFloat q codes) (sym kind) (has-two s (names_in new) codes numbers.1)
 
-pub not-essential : (s : Stmt) → is_assertion s ≡ true → is_essential s ≡ true → ⊥
-not-essential (stmt.Ess label expr) a e = cc
-not-essential s a e = cc
-
--- the hypotheses that are kept with each `$e` are the `$f` of its variables
-pub essentials-kept : (k : Storage) → AreStored k → (i : ℕ) (x : Entry) → slice_get k.entries i ≡ Some x → is_essential (stmt_of (names_in k) (labels_in k) x) ≡ true
-    → x.assertion.hypotheses ≡ floats_in (take i (statements_of k)) (expr_of (stmt_of (names_in k) (labels_in k) x))
-essentials-kept k stored i x h e =
-    let kept = stored.kept.parts_kept i x h (by x.kind e) in
-    kept.hypotheses_kept ∙ ap (λ b. kept_with b (take i (statements_of k)) (stmt_of (names_in k) (labels_in k) x)) (kept.own_kept e)
-  where
-    by : (kind : Kind) → is_essential (stmt_by kind (name_at (labels_in k) x.label_count) (decode (names_in k) x.symbols)) ≡ true → has_parts kind ≡ true
-    by Ess g = refl
-    by kind g = cc
-
 -- ---- the changes to the parts of the storage
 
 variable-numbers : (names : List Name) (s : Stmt) (codes : List ℕ) → AreNumbers names (symbols_in s) codes → AreVariableNumbers names s codes
@@ -115,21 +93,16 @@ variable-numbers names (stmt.Float label constant variable) codes n = n
 variable-numbers names s codes n = tt
 
 -- the changes that the call makes to the parts of the storage
-pub record IsExtended (old new : Storage) (s : Stmt) (h : EntryHeader) (a : Assertion) (codes : List ℕ) (kind : Kind) (at : ℕ) (floats replaced : List ℕ) (entries : List Entry) (last_active : LastActive) : Type 0 where
+pub record IsExtended (old new : Storage) (s : Stmt) (h : EntryHeader) (a : Assertion) (codes : List ℕ) (entries : List Entry) (last_active : LastActive) : Type 0 where
   pub grown : HasMoreNames old new
-  pub room : HasRoom new
+  pub few : length (names_in new) < 2 ^ 31
   pub positions : new.positions.items ≡ old.positions.items ++ option_position (label_of s) (length old.entries + 1) []
-  pub kept : has_parts h.kind ≡ true → IsKeptOf old (bare s) a
-  pub of_kind : kind ≡ h.kind
-  pub place : at ≡ length old.entries + 1
-  pub recorded : (x : ℕ → ℕ) → AreGivenBy new.floats.items x → replaced ≡ new.replaced.items ++ option_float x (typed_by kind codes)
-  pub each : (c x : ℕ) → slice_get new.floats.items c ≡ Some x → slice_get floats c ≡ Some (with_float (typed_by kind codes) at c x)
-  pub count : length floats ≡ length new.floats.items
+  pub kept : IsKeptOf old (bare s) a
   pub pushed : entries ≡ new.entries ++ entry_by h codes a ∷ []
   pub linked : last_active ≡ last_active_of (statements_of old ++ bare s ∷ [])
 
-module _ {old new : Storage} {s : Stmt} {h : EntryHeader} {a : Assertion} {codes : List ℕ} {before after : Option (List ℕ)} {kind : Kind} {at : ℕ} {floats replaced : List ℕ} {entries : List Entry} {last_active : LastActive}
-    (x : IsEntered old new s h before after) (are : after ≡ Some codes) (p : IsExtended old new s h a codes kind at floats replaced entries last_active) where
+module _ {old new : Storage} {s : Stmt} {h : EntryHeader} {a : Assertion} {codes : List ℕ} {before after : Option (List ℕ)} {entries : List Entry} {last_active : LastActive}
+    (x : IsEntered old new s h before after) (are : after ≡ Some codes) (p : IsExtended old new s h a codes entries last_active) where
   abbrev e : Entry
   e = entry_by h codes a
 
@@ -180,63 +153,26 @@ module _ {old new : Storage} {s : Stmt} {h : EntryHeader} {a : Assertion} {codes
       by (inl q) = x.stored.kept.linked i d q.1 ∙ ap last_active_of (sym (early i q.0))
       by (inr q) = ap (λ w. w.last_active) (sym q.1) ∙ (x.header.last_active ∙ (x.stored.kept.last ∙ ap last_active_of (sym (late i q.0))))
 
-  -- the last `$f` as before; new symbols have none
-  between : AreGivenBy new.floats.items (last_float old.entries)
-  between = still-reads (names_in old) (labels_in old) old.positions.items old.floats.items old.replaced.items old.entries old.last_active new.floats.items x.stored.kept p.grown.floats
-
-  -- each symbol has its last `$f`, with the new statement
-  floats' : (c : ℕ) → c < length (names_in new) → slice_get floats c ≡ Some (last_float entries c)
-  floats' c lt =
-      p.each c (last_float old.entries c) (between c (omega (arith, lt, p.room.count)))
-      ∙ rw (p.of_kind, entries-more) (ap Some (ap (λ n. with_float (typed_by e.kind e.symbols) n c (last_float old.entries c)) (omega (arith, p.place)) ∙ sym (last_float-push old.entries e c)))
-
-  -- each assertion is kept with its parts, and so is the new one
-  parts' : (i : ℕ) (d : Entry) → slice_get entries i ≡ Some d → has_parts d.kind ≡ true → IsKeptAs entries (take i (map (stmt_of (names_in new) (labels_in new)) entries)) (stmt_of (names_in new) (labels_in new) d) d.assertion
-  parts' i d h has = by (found i d h)
+  -- each entry is as it was after the entries before it, and so is the new one
+  each' : (i : ℕ) (d : Entry) → slice_get entries i ≡ Some d → IsEntryAfter (take i entries) (take i (map (stmt_of (names_in new) (labels_in new)) entries)) (stmt_of (names_in new) (labels_in new) d) d
+  each' i d h = by (found i d h)
     where
-      by : ((i < length old.entries) × (slice_get old.entries i ≡ Some d)) ⊎ ((i ≡ length old.entries) × (e ≡ d)) → IsKeptAs entries (take i (map (stmt_of (names_in new) (labels_in new)) entries)) (stmt_of (names_in new) (labels_in new) d) d.assertion
+      by : ((i < length old.entries) × (slice_get old.entries i ≡ Some d)) ⊎ ((i ≡ length old.entries) × (e ≡ d)) → IsEntryAfter (take i entries) (take i (map (stmt_of (names_in new) (labels_in new)) entries)) (stmt_of (names_in new) (labels_in new) d) d
       by (inl q) =
           let same : stmt_of (names_in new) (labels_in new) d ≡ stmt_of (names_in old) (labels_in old) d =
           stmt-more (names_in old) (names_in new) (labels_in old) (labels_in new) d names-extend labels-extend (numbered-at (length (names_in old)) (length (labels_in old)) old.entries x.stored.kept.coded i d q.1)
           (label-below-at (length (names_in old)) (length (labels_in old)) old.entries x.stored.kept.coded i d q.1) in
-          rw (early i q.0, same, entries-more)
-          (kept-moved (names_in old) (labels_in old) old.entries (old.entries ++ e ∷ []) i (stmt_of (names_in old) (labels_in old) d) d.assertion (sym (take-append-le i old.entries (e ∷ []) (omega (arith, q.0)))) (x.stored.kept.parts_kept i d q.1 has))
+          let front : take i entries ≡ take i old.entries = ap (take i) entries-more ∙ take-append-le i old.entries (e ∷ []) (omega (arith, q.0)) in
+          rw (early i q.0, same, front) (x.stored.kept.each i d q.1)
       by (inr q) =
-          rw (late i q.0, ← q.1, stands, entries-more) (kept-more (names_in old) (labels_in old) old.entries (e ∷ []) (bare s) a (p.kept (ap (λ w. has_parts w.kind) q.1 ∙ has)))
-
-  -- each assertion has its size, and so has the new one
-  sizes' : (i : ℕ) (d : Entry) → slice_get entries i ≡ Some d → IsSizeOf (take i (map (stmt_of (names_in new) (labels_in new)) entries)) (stmt_of (names_in new) (labels_in new) d) d.size
-  sizes' i d h = by (found i d h)
-    where
-      by : ((i < length old.entries) × (slice_get old.entries i ≡ Some d)) ⊎ ((i ≡ length old.entries) × (e ≡ d)) → IsSizeOf (take i (map (stmt_of (names_in new) (labels_in new)) entries)) (stmt_of (names_in new) (labels_in new) d) d.size
-      by (inl q) =
-          let same : stmt_of (names_in new) (labels_in new) d ≡ stmt_of (names_in old) (labels_in old) d =
-          stmt-more (names_in old) (names_in new) (labels_in old) (labels_in new) d names-extend labels-extend (numbered-at (length (names_in old)) (length (labels_in old)) old.entries x.stored.kept.coded i d q.1)
-          (label-below-at (length (names_in old)) (length (labels_in old)) old.entries x.stored.kept.coded i d q.1) in
-          rw (early i q.0, same) (x.stored.kept.sizes_kept i d q.1)
-      by (inr q) = rw (late i q.0, ← q.1, stands) x.header.size
-
-  -- each entry has the counts of the names and labels before it, and so has the new one
-  counts' : (i : ℕ) (d : Entry) → slice_get entries i ≡ Some d → KeepsCounts (names_in new) (labels_in new) entries i d
-  counts' i d h = by (found i d h)
-    where
-      by : ((i < length old.entries) × (slice_get old.entries i ≡ Some d)) ⊎ ((i ≡ length old.entries) × (e ≡ d)) → KeepsCounts (names_in new) (labels_in new) entries i d
-      by (inl q) =
-          let c = x.stored.kept.counts_kept i d q.1 in
-          record {
-            numbered = subst (AreNumbered d.symbol_count d.label_count) (sym (ap (take i) entries-more ∙ take-append-le i old.entries (e ∷ []) (omega (arith, q.0)))) c.numbered;
-            label_count = c.label_count ∙ ap (λ S. length (labels_of S)) (sym (early i q.0));
-            name_count = c.name_count ∙ ap (λ S. length (symbols_of S)) (sym (early i q.0));
-          }
-      by (inr q) =
-          let n : d.symbol_count ≡ length (names_in old) = ap (λ w. w.symbol_count) (sym q.1) ∙ x.header.names in
-          let m : d.label_count ≡ length (labels_in old) = ap (λ w. w.label_count) (sym q.1) ∙ x.header.label in
           let front : take i entries ≡ old.entries = ap (take i) entries-more ∙ (ap (λ j. take j (old.entries ++ e ∷ [])) q.0 ∙ take-append_seam old.entries (e ∷ [])) in
-          record {
-            numbered = rw (n, m, front) x.stored.kept.coded;
-            label_count = m ∙ ap length (x.stored.kept.labels_kept ∙ ap labels_of (sym (late i q.0)));
-            name_count = n ∙ ap length (x.stored.kept.names_kept ∙ ap symbols_of (sym (late i q.0)));
-          }
+          rw (late i q.0, front, ← q.1, stands) (record {
+            numbered = rw (x.header.names, x.header.label) x.stored.kept.coded;
+            label_count = x.header.label ∙ ap length x.stored.kept.labels_kept;
+            name_count = x.header.names ∙ ap length x.stored.kept.names_kept;
+            parts = p.kept;
+            size = x.header.size;
+          })
 
   -- the new entry has the numbers of the variables of a `$v`, and of the two symbols of a `$f`
   pub added-numbers : (d : Entry) → slice_get entries (length old.entries) ≡ Some d → AreVariableNumbers (symbols_after (statements_of old) s) s d.symbols
@@ -244,7 +180,7 @@ module _ {old new : Storage} {s : Stmt} {h : EntryHeader} {a : Assertion} {codes
       let same : e ≡ d = same_Some e d (sym (ap (λ r. slice_get r (length old.entries)) entries-more ∙ get-last old.entries e) ∙ g) in
       subst (λ (w : Entry). AreVariableNumbers (symbols_after (statements_of old) s) s w.symbols) same (variable-numbers (symbols_after (statements_of old) s) s codes (numbers-after old new s h before after codes x are))
 
-  pub kept-pushed : AreKept (names_in new) (labels_in new) new.positions.items floats replaced entries last_active
+  pub kept-pushed : AreKept (names_in new) (labels_in new) new.positions.items entries last_active
   kept-pushed =
       let k = x.stored.kept in
       record {
@@ -258,13 +194,8 @@ module _ {old new : Storage} {s : Stmt} {h : EntryHeader} {a : Assertion} {codes
         coded = subst (AreNumbered (length (names_in new)) (length (labels_in new))) (sym entries-more)
             (numbered-push (length (names_in old)) (length (names_in new)) (length (labels_in old)) (length (labels_in new)) old.entries e (extends-length (names_in old) (names_in new) names-extend) (extends-length (labels_in old) (labels_in new) labels-extend) k.coded
             (entered-below old new s h before after codes x are) (entered-label old new s h before after codes x are) (entered-two old new s h before after codes x are));
-        floats_kept = floats';
-        replaced_kept = p.recorded (last_float old.entries) between ∙ rw (p.grown.replaced, p.of_kind, k.replaced_kept, entries-more) (sym (replaced_of-push old.entries e));
-        counts_kept = counts';
-        count = p.count ∙ p.room.count;
-        few = p.room.few;
-        parts_kept = parts';
-        sizes_kept = sizes';
+        each = each';
+        few = p.few;
       }
 
 -- the numbering with the names of the new statement is that of all statements

@@ -1,6 +1,5 @@
 -- Distinct names, and statements by their kinds.
-use Rattle.frame.proofs.Words.{◌&&◌, is_float_kind, second_is, sym, ◌∙◌, ap, subst, arith, take-take, ◌≡◌, ℕ, zero, suc, ◌-◌, ◌<◌, true, List, [], ◌∷◌, length, map, take, slice_get, Option, Some, option_map, refl, same_Some, slice_get-map, Name, Stmt, Database, expr_of, is_assertion, IsLegal, name_at, decode, AreDistinct, is_hypothesis, AreBelow, typecode_of, IsTypecode, IsStatementOf, Kind, Float, Ess, Axiom, Prove, Entry, stmt_by, AreNumbered, HasTwoSymbolsIfFloat, is_typed_by, hypothesis_by, take-get, code-at}
-use Rattle.frame.proofs.LegalLabels.{AllKept}
+use Rattle.frame.proofs.Words.{◌&&◌, is_float_kind, second_is, sym, ◌∙◌, ap, subst, arith, take-take, ◌≡◌, ℕ, zero, suc, ◌-◌, ◌<◌, true, List, [], ◌∷◌, length, map, take, slice_get, Option, Some, option_map, refl, same_Some, slice_get-map, Name, Stmt, Database, expr_of, is_assertion, IsLegal, name_at, decode, AreDistinct, is_hypothesis, AreBelow, typecode_of, IsTypecode, IsStatementOf, Kind, Float, Ess, Axiom, Prove, Entry, stmt_by, AreNumbered, HasTwoSymbolsIfFloat, is_typed_by, hypothesis_by, take-get, code-at, AreAllLegal}
 
 -- ---- lists
 
@@ -16,7 +15,7 @@ pub some-same : {A : Type 0} {o : Option A} {x y : A} → o ≡ Some x → o ≡
 some-same {x = x} {y = y} p q = let e : Some x ≡ Some y = sym p ∙ q in cc
 
 -- the first n of legal statements are legal
-pub kept-front : (all : Database) (n : ℕ) → AllKept all → AllKept (take n all)
+pub kept-front : (all : Database) (n : ℕ) → AreAllLegal all → AreAllLegal (take n all)
 kept-front all n legal zero t h = cc
 kept-front all n legal (suc k) t h =
     let r = take-get n k all t h in

@@ -1,7 +1,6 @@
 -- The parts that are kept with an assertion describe it.
 use Rattle.frame.proofs.Words.{In, is_float_with, is_typed_by, list_any, list_any-map, sym, ◌∙◌, ap, subst, arith, append_assoc, length-append, ◌≡◌, ℕ, suc, ◌+◌, ◌-◌, ◌<◌, ◌≤◌, Bool, true, false, cond, List, [], ◌∷◌, ◌++◌, length, map, filter, slice_get, Option, Some, None, refl, Name, Stmt, Database, stmt_at, before, stays_open, active_from, expr_of, has_name, disjoint_names, is_assertion, IsLegal, name_at, decode, AreDistinct, is_mandatory, is_hypothesis, hypotheses, has_two_or_more, AreBelow, AllBelow, typecode_of, IsTypecode, IsStatementOf, IsNumberedHypothesis, AreNumberedHypotheses, AreListsOf, IsViewOf, AssertionView, Kind, Disj, Entry, Assertion, actives, actives_from, is_disj, stmt_by, stmt_of, AreAllLegal, AreNumbered, HasTwoSymbolsIfFloat, is_typed, symbols_at, option_symbols, has_two_or_more_items, typecode_at, hypothesis_by, entry_hypothesis, hypothesis_at, take-get, Hypothesis, AreDescribed, AreVariablesOf, AreGroupsOf, AreMandatoryPairs, float_variables, has_number, recorded_in, groups_in, disjoint_symbols, false≢true, inl, inr, or_left, or_right, ◌||◌, ◌&&◌, ◌==◌, and-false, and_parts, is_float_kind, second_is}
 use Rattle.frame.proofs.LegalAfter.{stands-at}
-use Rattle.frame.proofs.LegalLabels.{AllKept}
 use Rattle.frame.proofs.VariablePlaceLemmas.{any-in, in-any, mandatory-float}
 use Rattle.frame.proofs.ActivePositions.{active-members}
 use Rattle.frame.proofs.NamedCodes.{coded, has-code, code-low, floats-is, is-floats}
@@ -57,7 +56,7 @@ module _ (es : List Entry) (names labels : List Name) (m a : ℕ) (e : Entry) (d
   abbrev places : List Hypothesis
   places = d.numbered_hypotheses
 
-  front-legal : AllKept front_of
+  front-legal : AreAllLegal front_of
   front-legal = kept-front all (a - 1) legal
 
   own-legal : IsLegal front_of own

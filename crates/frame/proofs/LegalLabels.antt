@@ -1,10 +1,6 @@
 -- The properties of legal statements that the verifier uses.
-use Rattle.frame.proofs.Words.{sym, ◌∙◌, ap, arith, ◌≡◌, ℕ, zero, suc, ◌-◌, ◌<◌, Bool, true, false, not, cond, ◌||◌, List, [], ◌∷◌, take, Some, None, slice_get, refl, get_or-take, length-take, bytes_eq-Decides, list_any_at, slice_get_within, get_or_from_slice_get, Name, Stmt, Database, find, G1, G2, G3, G4, G5, G6, G7, G8, G9, G10, stmt_at, before, label_of, has_label, was_label, was_symbol, IsLegal, keeps, is_fresh_label, Carries, HasLabelsOnce}
+use Rattle.frame.proofs.Words.{sym, ◌∙◌, ap, arith, ◌≡◌, ℕ, zero, suc, ◌-◌, ◌<◌, Bool, true, false, not, cond, ◌||◌, List, [], ◌∷◌, take, Some, None, slice_get, refl, get_or-take, length-take, bytes_eq-Decides, list_any_at, slice_get_within, get_or_from_slice_get, Name, Stmt, Database, find, G1, G2, G3, G4, G5, G6, G7, G8, G9, G10, before, label_of, has_label, was_label, was_symbol, IsLegal, keeps, is_fresh_label, Carries, HasLabelsOnce, AreAllLegal}
 use Rattle.mm_read.specs.declared.stmt.Stmt.TheVariants.{Float}
-
--- each statement is legal after the earlier ones
-abbrev pub AllKept : Database → Type 0
-AllKept S = (j : ℕ) (s : Stmt) → stmt_at S j ≡ Some s → IsLegal (before S j) s
 
 -- no element passes the test
 abbrev pub AllFail : {A : Type 0} → (A → Bool) → List A → Type 0
@@ -47,7 +43,7 @@ was_there S n k s label h e l =
     list_any_at (λ t. has_label label (label_of t)) (take n S) k s (omega (arith, length-take n S, slice_get_within S k s e, h)) there
 
 -- no later statement has the label
-no_later : (S : Database) → AllKept S → (i j : ℕ) (s r : Stmt) (label : Name) → Carries S i s label → Carries S j r label → i < j → ⊥
+no_later : (S : Database) → AreAllLegal S → (i j : ℕ) (s r : Stmt) (label : Name) → Carries S i s label → Carries S j r label → i < j → ⊥
 no_later S kept zero j s r label p q h = let e = p.stands in cc
 no_later S kept (suc i) j s r label p q h =
     let a = fresh (before S j) r label (kept j r q.stands) q.carried in
@@ -55,7 +51,7 @@ no_later S kept (suc i) j s r label p q h =
     let c : true ≡ false = sym b ∙ a in cc
 
 -- no two legal statements have the same label
-pub legal-labels : (S : Database) → AllKept S → HasLabelsOnce S
+pub legal-labels : (S : Database) → AreAllLegal S → HasLabelsOnce S
 legal-labels S kept i j s r label p q =
     let a = no_later S kept i j s r label p q in
     let b = no_later S kept j i r s label q p in

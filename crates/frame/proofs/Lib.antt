@@ -2,7 +2,7 @@ pub mod Words
 pub mod SymbolNumberLemmas
 pub mod OpenLemmas
 pub mod LastActiveLemmas
-pub mod DeclareLemmas
+pub mod FloatLemmas
 pub mod DeclaredSymbolLemmas
 pub mod EnterLemmas
 pub mod StoredOneMore
@@ -42,7 +42,6 @@ pub mod FoundByNumber
 pub mod PlacedHypotheses
 pub mod KeptStatementLemmas
 pub mod WellTypedLemmas
-pub mod BufferedHypotheses
 pub mod AscendingLists
 pub mod ActivePositions
 pub mod NamedCodes

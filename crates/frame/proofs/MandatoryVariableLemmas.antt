@@ -74,10 +74,6 @@ module _ (S : Database) (names : List Name) where
   floats-named : (n : ℕ) (kind : Stmt → Bool) (ps : List (ℕ × Stmt)) (typecodes : List ℕ) (hs : List Hypothesis) → AreThere (take n S) kind ps → AreNumberedHypotheses S names (map (λ p. p.0) ps) typecodes hs
       → decode names (floats_of hs) ≡ flat_map (λ p. typed_by p.1) ps
   floats-named n kind [] [] [] there are = refl
-  floats-named n kind [] [] (h ∷ hs) there are = absurd are
-  floats-named n kind [] (typecode ∷ typecodes) hs there are = absurd are
-  floats-named n kind (p ∷ ps) [] hs there are = absurd are
-  floats-named n kind (p ∷ ps) (typecode ∷ typecodes) [] there are = absurd are
   floats-named n kind (p ∷ ps) (typecode ∷ typecodes) (h ∷ hs) there are =
       let same : are.0.stmt ≡ p.1 = same_Some _ _ (sym (at-position p.0 are.0.stmt are.0.stands) ∙ (take-get n (p.0 - 1) S p.1 there.0.0).1) in
       by p.1 h (subst (λ t. IsStatementOf names p.0 t h) same are.0.is) (floats-named n kind ps typecodes hs there.1 are.1)
@@ -86,6 +82,7 @@ module _ (S : Database) (names : List Name) where
       by (stmt.Float label constant x) (Float y) is more = ap (λ z. z ∷ decode names (floats_of hs)) is.1 ∙ ap (λ l. x ∷ l) more
       by (stmt.Ess label expr) (Essential q) is more = more
       by t h is more = absurd is
+  floats-named n kind ps typecodes hs there are = absurd are
 
   -- the place of the `$f` of a number
   pub record HasPlace (ps : List ℕ) (x : ℕ) : Type 0 where
@@ -98,10 +95,6 @@ module _ (S : Database) (names : List Name) where
 
   has-place : (ps typecodes : List ℕ) (hs : List Hypothesis) (x : ℕ) → AreNumberedHypotheses S names ps typecodes hs → has_number (floats_of hs) x ≡ true → HasPlace ps x
   has-place [] [] [] x are has = absurd (true≢false (sym has))
-  has-place [] [] (h ∷ hs) x are has = absurd are
-  has-place [] (typecode ∷ typecodes) hs x are has = absurd are
-  has-place (p ∷ ps) [] hs x are has = absurd are
-  has-place (p ∷ ps) (typecode ∷ typecodes) [] x are has = absurd are
   has-place (p ∷ ps) (typecode ∷ typecodes) (h ∷ hs) x are has = by are.0.stmt h are.0.stands are.0.is has (has-place ps typecodes hs x are.1)
     where
       later : HasPlace ps x → HasPlace (p ∷ ps) x
@@ -122,6 +115,7 @@ module _ (S : Database) (names : List Name) where
           one false e k = later (more k)
       by (stmt.Ess label expr) (Essential q) stands is has more = later (more has)
       by t h stands is has more = absurd is
+  has-place ps typecodes hs x are has = absurd are
 
   -- no two of the positions are those of `$f` of one variable
   pub record IsTypedOnce (ps : List ℕ) : Type 0 where
@@ -129,10 +123,6 @@ module _ (S : Database) (names : List Name) where
 
   all-once : (ps typecodes : List ℕ) (hs : List Hypothesis) → AreNumberedHypotheses S names ps typecodes hs → IsTypedOnce ps → IsEachOnce (floats_of hs)
   all-once [] [] [] are typed = tt
-  all-once [] [] (h ∷ hs) are typed = absurd are
-  all-once [] (typecode ∷ typecodes) hs are typed = absurd are
-  all-once (p ∷ ps) [] hs are typed = absurd are
-  all-once (p ∷ ps) (typecode ∷ typecodes) [] are typed = absurd are
   all-once (p ∷ ps) (typecode ∷ typecodes) (h ∷ hs) are typed = by are.0.stmt h are.0.stands are.0.is (all-once ps typecodes hs are.1 later)
     where
       later : IsTypedOnce ps
@@ -148,6 +138,7 @@ module _ (S : Database) (names : List Name) where
               omega (arith, e)
       by (stmt.Ess label expr) (Essential q) stands is more = more
       by t h stands is more = absurd is
+  all-once ps typecodes hs are typed = absurd are
 
 -- the variables of the view of an assertion, named, are its mandatory variables
 pub variables-named : (S : Database) (names : List Name) (a : ℕ) (s : Stmt) (c : AssertionView) → HasLegalProperties S names → HasAssertion S a s → IsViewOf S names a s c → decode names (float_variables c.hypotheses) ≡ mandatory_variables (before S a) s

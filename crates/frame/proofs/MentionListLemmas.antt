@@ -1,5 +1,5 @@
 -- The mentions of a symbol after a statement is appended, and of the first statements alone.
-use Rattle.frame.proofs.Words.{◌≡◌, ◌∙◌, ap, sym, subst, arith, refl, inl, inr, ℕ, zero, suc, ◌+◌, ◌-◌, ◌<◌, ◌≤◌, ◌⊎◌, Bool, true, false, cond, nat_eq, List, [], ◌∷◌, ◌++◌, length, take, take_all, take-append-le, take-append_seam, length-append, slice_get, slice_get_within, same_Some, Some, AreBelow, Stmt, Database, Entry, is_close, actives, has_code, positions_with, IsOfKind, get-last, get-more, get-push, list_any, option_symbols, cases_lt, having_after, length-take-le, take-get, take-take}
+use Rattle.frame.proofs.Words.{◌≡◌, ◌∙◌, ap, sym, subst, arith, inl, inr, ℕ, ◌+◌, ◌-◌, ◌<◌, ◌≤◌, ◌⊎◌, Bool, true, false, cond, nat_eq, List, [], ◌∷◌, ◌++◌, length, take, take_all, take-append-le, take-append_seam, length-append, slice_get, slice_get_within, same_Some, Some, AreBelow, Stmt, Database, Entry, is_close, actives, has_code, positions_with, IsOfKind, get-last, get-more, get-push, list_any, option_symbols, cases_lt, having_after, length-take-le, take-get, take-take}
 use Rattle.frame.proofs.BlockWalkLemmas.{get-take}
 use Rattle.frame.proofs.LastActiveLemmas.{actives-push}
 use Rattle.frame.proofs.MentionWalkLemmas.{tail-same}
@@ -8,10 +8,10 @@ use Rattle.entries.specs.Mentions.{AreMentions, IsUntil, kept_until, positions_o
 use Rattle.entries.specs.declared.mentions.Mention.{Mention}
 use Rattle.frame.proofs.PositionsWith.{AreIn, actives-in, positions_with-front, positions_with-push}
 use Rattle.frame.specs.Stored.MentionLists.{IsListOf, IsMentionedAt, IsSound, IsTail}
+use Rattle.frame.proofs.SymbolNumberLemmas.{below-more}
 
-below-wider : (n m : ℕ) (xs : List ℕ) → n ≤ m → AreBelow n xs → AreBelow m xs
-below-wider n m [] le h = tt
-below-wider n m (x ∷ xs) le h = (let lt = h.0 in omega (arith, lt, le), below-wider n m xs le h.1)
+get-before : {A : Type 0} (xs : List A) (x : A) (i : ℕ) → i < length xs → slice_get (xs ++ x ∷ []) i ≡ slice_get xs i
+get-before xs x i lt = sym (get-take i (length xs) (xs ++ x ∷ []) lt) ∙ ap (λ ys. slice_get ys i) (take-append_seam xs (x ∷ []))
 
 having-below : (n : ℕ) (found : List ℕ) (es : List Entry) (c : ℕ) (ps : List (ℕ × Stmt)) → AreBelow (n + 1) found → AreIn 1 n ps → AreBelow (n + 1) (having_after found es c ps)
 having-below n found es c [] all within = all
@@ -34,20 +34,10 @@ module _ (kind : Stmt → Bool) (es : List Entry) (S : Database) (e : Entry) (s 
 
   -- an earlier statement has the symbol as before
   code-as : (p : ℕ) → 1 ≤ p → p ≤ length S → has_code es' c p ≡ has_code es c p
-  code-as p one le = ap (λ o. list_any (λ x. nat_eq c x) (option_symbols o)) (get-front es (p - 1) (omega (arith, one, le, size)))
-    where
-      get-front : (fs : List Entry) (i : ℕ) → i < length fs → slice_get (fs ++ e ∷ []) i ≡ slice_get fs i
-      get-front [] i lt = absurd (omega (arith, lt))
-      get-front (f ∷ fs) zero lt = refl
-      get-front (f ∷ fs) (suc i) lt = get-front fs i (omega (arith, lt))
-
-  get-as : (T : Database) (i : ℕ) → i < length T → slice_get (T ++ s ∷ []) i ≡ slice_get T i
-  get-as [] i lt = absurd (omega (arith, lt))
-  get-as (t ∷ T) zero lt = refl
-  get-as (t ∷ T) (suc i) lt = get-as T i (omega (arith, lt))
+  code-as p one le = ap (λ o. list_any (λ x. nat_eq c x) (option_symbols o)) (get-before es e (p - 1) (omega (arith, one, le, size)))
 
   kind-as : (p : ℕ) → p ≤ length S → IsOfKind kind S' p → IsOfKind kind S p
-  kind-as p le o = record { one = o.one; statement = o.statement; stands = sym (get-as S (p - 1) (let one = o.one in omega (arith, one, le))) ∙ o.stands; of_kind = o.of_kind }
+  kind-as p le o = record { one = o.one; statement = o.statement; stands = sym (get-before S s (p - 1) (let one = o.one in omega (arith, one, le))) ∙ o.stands; of_kind = o.of_kind }
 
   -- what is active after the first statements is found as before
   with-as : (p : ℕ) → p ≤ length S → positions_with es' c (actives kind (take p S')) ≡ positions_with es c (actives kind (take p S))
@@ -116,7 +106,7 @@ module _ (kind : Stmt → Bool) (es : List Entry) (S : Database) (e : Entry) (s 
         one = omega (arith, place);
         has = λ o. absurd (let yes = ap kind (same_Some s o.statement (sym (get-last S s) ∙ (ap (slice_get S') (omega (arith, place)) ∙ o.stands))) ∙ o.of_kind in cc);
         lower = subst (AreBelow m.position) (sym beneath)
-            (below-wider (length (take from S) + 1) m.position (positions_with es c (actives kind (take from S))) (omega (arith, place, low, length-take-le from S low)) (with-below kind es c (take from S)));
+            (below-more (length (take from S) + 1) m.position (positions_with es c (actives kind (take from S))) (omega (arith, place, low, length-take-le from S low)) (with-below kind es c (take from S)));
         leads = inr (subst (IsTail (positions_with es' c (actives kind (take m.position S')))) (sym (beneath ∙ sym (ap (λ T. positions_with es' c (actives kind T)) all ∙ (ap (positions_with es' c) after ∙ front)))) (tail-same _));
       }
 

@@ -1,5 +1,5 @@
 -- The walk from the last mention before a position down to the first one that is active there.
-use Rattle.frame.proofs.Words.{◌≡◌, ◌∙◌, ap, sym, subst, arith, refl, inl, inr, ℕ, zero, suc, ◌+◌, ◌-◌, ◌<◌, ◌≤◌, ◌⊎◌, Bool, true, false, cond, ◌&&◌, List, [], ◌∷◌, ◌++◌, length, map, take, drop, take-append_seam, take-take, append-nil, length-append, length-take-le, slice_get, slice_get_within, Some, None, Option, AreBelow, Stmt, Database, Entry, is_open, is_close, is_active, stays_open, actives, actives_from, last_active_of_kind, has_code, having_after, positions_with, IsOfKind, kind_test, In, Kind, Disj, take-get, take-append-le, get-last, get_or_from_slice_get, false_from_ne_true, and_parts, true≢false, IfSome, IfNone, length-take}
+use Rattle.frame.proofs.Words.{◌≡◌, ◌∙◌, ap, sym, subst, arith, refl, inl, inr, ℕ, zero, suc, ◌+◌, ◌-◌, ◌<◌, ◌≤◌, ◌⊎◌, Bool, true, false, cond, ◌&&◌, List, [], ◌∷◌, ◌++◌, length, map, take, drop, take-append_seam, take-take, append-nil, length-append, length-take-le, slice_get, slice_get_within, Some, None, Option, AreBelow, Stmt, Database, Entry, is_open, is_close, is_active, stays_open, actives, actives_from, last_active_of_kind, has_code, having_after, positions_with, IsOfKind, kind_test, In, Kind, Disj, take-get, take-append-le, get-last, get_or_from_slice_get, false_from_ne_true, and_parts, true≢false, IfSome, IfNone, length-take, get_or, slice_get-get_or}
 use Rattle.entries.proofs.MentionLemmas.{before-below, before-has, positions-push}
 use Rattle.entries.specs.Mentions.{IsFront, IsLast, before, positions_of}
 use Rattle.entries.specs.declared.mentions.Mention.{Mention}
@@ -7,7 +7,7 @@ use Rattle.frame.proofs.LegalAfter.{stands-at}
 use Rattle.mm_read.specs.declared.stmt.Stmt.TheVariants as stmt
 use Rattle.frame.proofs.ActivePositions.{active-members, members-active}
 use Rattle.frame.proofs.BlockWalkLemmas.{active-stays, get-take, take-one}
-use Rattle.frame.proofs.LastActiveLemmas.{actives-push, actives-close, cut-here, length-cut}
+use Rattle.frame.proofs.LastActiveLemmas.{actives-push, actives-close, cut-here, length-cut, drop-front}
 use Rattle.frame.proofs.OpenLemmas.{HasLast, IsNoClose, split_last, last-position, actives-append, stays-from, is-open}
 use Rattle.frame.proofs.PositionsWith.{having-append, positions_with-push}
 use Rattle.frame.specs.Stored.MentionLists.{IsListOf, IsSound, IsTail, passes, stands}
@@ -106,23 +106,19 @@ module _ (kind : Stmt → Bool) (no_close : IsNoClose kind) (no_open : kind stmt
   pub later-tail : (S : Database) (n more : ℕ) → n + more ≤ length S → ((p : ℕ) → n < p → p ≤ n + more → IsOfKind kind S p → has_code es c p ≡ false) → IsTail (with (take (n + more) S)) (with (take n S))
   later-tail S n zero le lacks = subst (λ m. IsTail (with (take m S)) (with (take n S))) (omega arith) (tail-same (with (take n S)))
   later-tail S n (suc more) le lacks =
-      let here = slice_get_at S (n + more) (omega (arith, le)) in
+      let t = get_or S (n + more) stmt.Open in
+      let here : slice_get S (n + more) ≡ Some t = slice_get-get_or S (n + more) stmt.Open (omega (arith, le)) in
       let size : length (take (n + more) S) ≡ n + more = length-take-le (n + more) S (omega (arith, le)) in
       let up : n + suc more ≡ suc (n + more) = omega arith in
-      let one : take (n + suc more) S ≡ take (n + more) S ++ here.0 ∷ [] = ap (λ m. take m S) up ∙ take-one S (n + more) here.0 here.1 in
-      let lack : kind here.0 ≡ true → has_code es c (1 + length (take (n + more) S)) ≡ false =
+      let one : take (n + suc more) S ≡ take (n + more) S ++ t ∷ [] = ap (λ m. take m S) up ∙ take-one S (n + more) t here in
+      let lack : kind t ≡ true → has_code es c (1 + length (take (n + more) S)) ≡ false =
       λ k.
       let place : 1 + length (take (n + more) S) ≡ n + more + 1 = omega (arith, size) in
       let back : n + more + 1 - 1 ≡ n + more = omega arith in
-      ap (has_code es c) place ∙ lacks (n + more + 1) (omega arith) (omega arith) (record { one = omega arith; statement = here.0; stands = ap (slice_get S) back ∙ here.1; of_kind = k }) in
+      ap (has_code es c) place ∙ lacks (n + more + 1) (omega arith) (omega arith) (record { one = omega arith; statement = t; stands = ap (slice_get S) back ∙ here; of_kind = k }) in
       tail-trans (with (take (n + suc more) S)) (with (take (n + more) S)) (with (take n S))
-      (subst (λ T. IsTail (with T) (with (take (n + more) S))) (sym one) (step-tail (take (n + more) S) here.0 lack))
+      (subst (λ T. IsTail (with T) (with (take (n + more) S))) (sym one) (step-tail (take (n + more) S) t lack))
       (later-tail S n more (omega (arith, le)) (λ p lt low o. lacks p lt (omega (arith, low)) o))
-    where
-      slice_get_at : (T : Database) (i : ℕ) → i < length T → (s : Stmt) × (slice_get T i ≡ Some s)
-      slice_get_at [] i lt = absurd (omega (arith, lt))
-      slice_get_at (t ∷ T) zero lt = (t, refl)
-      slice_get_at (t ∷ T) (suc i) lt = slice_get_at T i (omega (arith, lt))
 
 -- ---- the positions found are those of active statements
 
@@ -153,10 +149,6 @@ in-having p found es c (q ∷ ps) has i = in-having p (cond (has_code es c q.0) 
     by (inr (inl e)) = inl (subst (λ b. In p (cond b (q.0 ∷ found) found)) (sym (ap (has_code es c) (sym e) ∙ has)) (inl e))
     by (inr (inr j)) = inr j
 
-drop-behind : (A : Database) (s : Stmt) (B : Database) → drop (suc (length A)) (A ++ s ∷ B) ≡ B
-drop-behind [] s B = refl
-drop-behind (a ∷ A) s B = drop-behind A s B
-
 module _ (table : Kind) (S : Database) (p at : ℕ) (above : 1 ≤ at) (within : at ≤ length S + 1) where
   abbrev T : Database
   T = take (at - 1) S
@@ -175,7 +167,7 @@ module _ (table : Kind) (S : Database) (p at : ℕ) (above : 1 ≤ at) (within :
           let lt : p < at = omega (arith, place, size, few) in
           let here : slice_get S (p - 1) ≡ Some h.stmt =
           sym (get-take (p - 1) (at - 1) S (omega (arith, lt, one))) ∙ (ap (λ n. slice_get T n) (omega (arith, place)) ∙ (ap (λ R. slice_get R (length h.front)) h.whole ∙ stands-at h.front h.stmt h.rest)) in
-          let gone : drop p T ≡ h.rest = ap (λ n. drop n T) place ∙ (ap (drop (suc (length h.front))) h.whole ∙ drop-behind h.front h.stmt h.rest) in
+          let gone : drop p T ≡ h.rest = ap (λ n. drop n T) place ∙ (ap (drop (suc (length h.front))) h.whole ∙ drop-front h.front h.stmt h.rest) in
           let active_is : is_active S p at ≡ true = active-stays S p at one lt ∙ (ap (stays_open 0) gone ∙ h.stays) in
           ap (λ o. passes (kind_test table) o && is_active S p at) here ∙ (ap (λ b. b && is_active S p at) h.passes ∙ active_is)
 

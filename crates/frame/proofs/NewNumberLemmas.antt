@@ -1,5 +1,5 @@
 -- The numbers of a list, each once, in the order in which they are met.
-use Rattle.frame.proofs.Words.{◌≡◌, ℕ, ◌==◌, Bool, true, false, cond, not, ◌&&◌, ◌||◌, List, [], ◌∷◌, ◌++◌, refl, sym, ◌∙◌, ap, arith, append-nil, and-false, has_number, IsEachOnce}
+use Rattle.frame.proofs.Words.{◌≡◌, ℕ, ◌==◌, Bool, true, false, cond, not, ◌&&◌, ◌||◌, List, [], ◌∷◌, ◌++◌, refl, sym, ◌∙◌, ap, arith, append-nil, and-false, or_assoc, or_comm, has_number, IsEachOnce}
 use Rattle.frame.specs.NumberedWork.{new_numbers, read_after}
 use Rattle.frame.proofs.PairListLemmas.{has-append, own}
 
@@ -16,10 +16,7 @@ new-append met [] ys = ap (λ l. new_numbers l ys) (sym (append-nil met))
 new-append met (x ∷ xs) ys = by (has_number met x) (new-append met xs ys) (new-append (x ∷ met) xs ys)
   where
     moved : (c : ℕ) → has_number ((x ∷ met) ++ new_numbers (x ∷ met) xs) c ≡ has_number (met ++ x ∷ new_numbers (x ∷ met) xs) c
-    moved c = has-append (x ∷ met) (new_numbers (x ∷ met) xs) c ∙ (shuffle (x == c) (has_number met c) (has_number (new_numbers (x ∷ met) xs) c) ∙ sym (has-append met (x ∷ new_numbers (x ∷ met) xs) c))
-      where
-        shuffle : (a b d : Bool) → ((a || b) || d) ≡ (b || (a || d))
-        shuffle a b d = grind arith
+    moved c = has-append (x ∷ met) (new_numbers (x ∷ met) xs) c ∙ (ap (λ b. b || has_number (new_numbers (x ∷ met) xs) c) (or_comm (x == c) (has_number met c)) ∙ or_assoc (has_number met c) (x == c) (has_number (new_numbers (x ∷ met) xs) c) ∙ sym (has-append met (x ∷ new_numbers (x ∷ met) xs) c))
 
     by : (b : Bool) → new_numbers met (xs ++ ys) ≡ new_numbers met xs ++ new_numbers (read_after met xs) ys
         → new_numbers (x ∷ met) (xs ++ ys) ≡ new_numbers (x ∷ met) xs ++ new_numbers (read_after (x ∷ met) xs) ys

@@ -20,8 +20,6 @@ each-all p (x ∷ xs) c h k = by (x == c) refl k (and_parts (p x) (list_all p xs
     by false e j parts more = more parts.1 j
 
 pub list-disjoint : (S : Database) (σ : Images) (names : List Name) (l m : List ℕ) → IsReordered l m → is_list_disjoint S σ (decode names m) ≡ is_list_disjoint S σ (decode names l)
-list-disjoint S σ names [] m h = absurd h
-list-disjoint S σ names (x ∷ xs) [] h = absurd h
 list-disjoint S σ names (x ∷ xs) (y ∷ ys) h =
     ap (λ c. list_all (clear (name_at names c)) (decode names ys)) h.0
     ∙ list_all-map (clear (name_at names x)) (name_at names) ys
@@ -33,6 +31,7 @@ list-disjoint S σ names (x ∷ xs) (y ∷ ys) h =
 
     p : ℕ → Bool
     p c = clear (name_at names x) (name_at names c)
+list-disjoint S σ names l m h = absurd h
 
 module _ (S : Database) (σ : Images) (names : List Name) where
   abbrev test : List ℕ → Bool
@@ -40,9 +39,8 @@ module _ (S : Database) (σ : Images) (names : List Name) where
 
   reordered-disjoint : (a b : List (List ℕ)) → AreReordered a b → list_all test b ≡ list_all test a
   reordered-disjoint [] [] all = refl
-  reordered-disjoint [] (m ∷ b) all = absurd all
-  reordered-disjoint (l ∷ a) [] all = absurd all
   reordered-disjoint (l ∷ a) (m ∷ b) all = ap (λ t. t && list_all test b) (list-disjoint S σ names l m all.0) ∙ ap (λ t. test l && t) (reordered-disjoint a b all.1)
+  reordered-disjoint a b all = absurd all
 
   -- lists of fewer than two numbers can be left out
   few-disjoint : (lists : List (List ℕ)) → list_all test (filter has_two_or_more_items lists) ≡ list_all test lists

@@ -2,13 +2,9 @@
 use Rattle.frame.proofs.Words.{◌≡◌, Bool, true, false, not, ◌||◌, ◌&&◌, List, [], ◌∷◌, ◌++◌, filter, refl, sym, ◌∙◌, ap, inl, inr, true≢false, and_from, and_parts, and_comm, or_left, or_right, or_cases, list_all, list_any, all-has, same_name, name_same, Name, name_eq, has_name, has_name-append, Database, Expr, is_variable, is_pair, is_mandatory, mandatory_groups, active_disjoint_lists, Images, image, are_disjoint, is_group_disjoint, are_groups_disjoint, are_lists_disjoint, pair_lists, PairListsDecideAsGroups}
 use Rattle.std.specs.Cmp.{both_ways}
 use Rattle.frame.proofs.GroupsLemmas.{has-filter, groups-pairs}
+use Rattle.frame.proofs.ActiveDisjointLemmas.{all-from}
 
 -- ---- lists of names
-
-all-from : (p : Name → Bool) (xs : List Name) → ((x : Name) → has_name x xs ≡ true → p x ≡ true) → list_all p xs ≡ true
-all-from p [] h = refl
-all-from p (x ∷ xs) h =
-    and_from (p x) (list_all p xs) (h x (or_left (name_eq x x) (has_name x xs) (name_same x))) (all-from p xs (λ y k. h y (or_right (name_eq y x) (has_name y xs) k)))
 
 pub eq-turn : (x y : Name) → name_eq x y ≡ name_eq y x
 eq-turn x y = both_ways (name_eq x y) (name_eq y x) (λ e. ap (λ z. name_eq z x) (sym (same_name x y e)) ∙ name_same x) (λ e. ap (λ z. name_eq z y) (sym (same_name y x e)) ∙ name_same y)

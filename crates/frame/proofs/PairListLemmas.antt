@@ -1,6 +1,8 @@
 -- The lists of the mandatory pairs of an assertion, by numbers.
-use Rattle.frame.proofs.Words.{◌≡◌, ℕ, zero, suc, ◌+◌, ◌<◌, ◌≤◌, Bool, true, false, cond, not, ◌||◌, ◌&&◌, ◌==◌, List, [], ◌∷◌, ◌++◌, length, map, filter, take, slice_get, get_or, drop, Some, refl, sym, ◌∙◌, ap, subst, arith, append-nil, append_assoc, map-append, filter-append, list_any, list_any_more, or-false, or_right, or_parts, or_from, and-false, nat_lt, true≢false, false_from_ne_true, any-filter_same, take_all, Result, Ok, Err, OnOk, OnErr, AddsBefore, IsPairList, Hypothesis, is_typed, AreBelow, AllBelow, Name, name_at, decode, Numbered, is_pair, is_numbered_pair, has_number, with_number, with_floats, float_variables, pair_lists, has_two_or_more_items, pairs_by, with_list, IsEachOnce, IsReordered, AreReordered}
+use Rattle.frame.proofs.Words.{and_comm, ◌≡◌, ℕ, zero, suc, ◌+◌, ◌<◌, ◌≤◌, Bool, true, false, cond, not, ◌||◌, ◌&&◌, ◌==◌, List, [], ◌∷◌, ◌++◌, length, map, filter, take, slice_get, get_or, drop, Some, refl, sym, ◌∙◌, ap, subst, arith, append-nil, append_assoc, map-append, filter-append, list_any, list_any_more, or-false, or_right, or_parts, or_from, and-false, nat_lt, true≢false, false_from_ne_true, any-filter_same, take_all, Result, Ok, Err, OnOk, OnErr, AddsBefore, IsPairList, Hypothesis, is_typed, AreBelow, AllBelow, Name, name_at, decode, Numbered, is_pair, is_numbered_pair, has_number, with_number, with_floats, float_variables, pair_lists, has_two_or_more_items, pairs_by, with_list, IsEachOnce, IsReordered, AreReordered, cases_Bool, inl, inr, or_assoc}
 use Rattle.entries.specs.declared.assertion_view.Hypothesis.TheVariants.{Float, Essential}
+use Rattle.frame.proofs.BlockWalkLemmas.{take-one}
+use Rattle.frame.proofs.SymbolNumberLemmas.{below-push, below-take}
 
 -- ---- numbers in a list
 
@@ -16,17 +18,11 @@ has-turn (x ∷ xs) c = ap (λ b. b || list_any (λ d. c == d) xs) (turn c x) �
 
 pub has-append : (xs ys : List ℕ) (c : ℕ) → has_number (xs ++ ys) c ≡ (has_number xs c || has_number ys c)
 has-append [] ys c = refl
-has-append (x ∷ xs) ys c = ap (λ b. (x == c) || b) (has-append xs ys c) ∙ shuffle (x == c) (has_number xs c) (has_number ys c)
-  where
-    shuffle : (a b d : Bool) → (a || (b || d)) ≡ ((a || b) || d)
-    shuffle a b d = grind arith
+has-append (x ∷ xs) ys c = ap (λ b. (x == c) || b) (has-append xs ys c) ∙ sym (or_assoc (x == c) (has_number xs c) (has_number ys c))
 
 pub below-each : (n : ℕ) (xs : List ℕ) → ((c : ℕ) → has_number xs c ≡ true → c < n) → AreBelow n xs
 below-each n [] h = tt
-below-each n (x ∷ xs) h = (h x (ap (λ b. b || has_number xs x) (own x)), below-each n xs (λ c k. h c (rw k (or_true (x == c)))))
-  where
-    or_true : (b : Bool) → (b || true) ≡ true
-    or_true b = grind arith
+below-each n (x ∷ xs) h = (h x (ap (λ b. b || has_number xs x) (own x)), below-each n xs (λ c k. h c (or_right (x == c) (has_number xs c) k)))
 
 pub each-below : (n : ℕ) (xs : List ℕ) (c : ℕ) → AreBelow n xs → has_number xs c ≡ true → c < n
 each-below n [] c b h = absurd (true≢false (sym h))
@@ -39,32 +35,33 @@ each-below n (x ∷ xs) c b h = by (x == c) refl h (each-below n xs c b.1)
 pub once-push : (xs : List ℕ) (c : ℕ) → IsEachOnce xs → has_number xs c ≡ false → IsEachOnce (xs ++ c ∷ [])
 once-push [] c once none = (refl, tt)
 once-push (x ∷ xs) c once none =
-    let p = parts (x == c) (has_number xs c) none in
+    let p = or_parts (x == c) (has_number xs c) none in
     (has-append xs (c ∷ []) x ∙ ap (λ b. b || ((c == x) || false)) once.0 ∙ ap (λ b. b || false) (turn c x ∙ p.0), once-push xs c once.1 p.1)
-  where
-    parts : (a b : Bool) → (a || b) ≡ false → (a ≡ false) × (b ≡ false)
-    parts false b h = (refl, h)
-    parts true b h = absurd (true≢false h)
 
 -- ---- the variables of the `$f`
 
-with-number-has : (found : List ℕ) (x c : ℕ) → has_number (with_number found x) c ≡ (has_number found c || (c == x))
+-- a test of equal numbers
+at-same : (f : ℕ → Bool) (x c : ℕ) → (f c && (x == c)) ≡ (f x && (x == c))
+at-same f x c = elim (cases_Bool (x == c)) [
+  | inl e ↦ let same : x ≡ c = grind (arith, e) in ap (λ z. f z && (x == c)) (sym same)
+  | inr e ↦ rw e (and-false (f c) ∙ sym (and-false (f x)))
+]
+
+with-number-has : (found : List ℕ) (x c : ℕ) → has_number (with_number found x) c ≡ (has_number found c || (x == c))
 with-number-has found x c = by (has_number found x) refl
   where
-    by : (t : Bool) → has_number found x ≡ t → has_number (cond t found (found ++ x ∷ [])) c ≡ (has_number found c || (c == x))
-    by false e = has-append found (x ∷ []) c ∙ ap (λ b. has_number found c || b) (or-false (x == c) ∙ turn x c)
-    by true e = same (c == x) refl
-      where
-        same : (s : Bool) → (c == x) ≡ s → has_number found c ≡ (has_number found c || s)
-        same false k = sym (or-false (has_number found c))
-        same true k = let one : c ≡ x = grind (arith, k) in rw (one, e) refl
+    absorbed : (a b : Bool) → (a && b) ≡ b → a ≡ (a || b)
+    absorbed true b h = refl
+    absorbed false b h = h
+
+    by : (t : Bool) → has_number found x ≡ t → has_number (cond t found (found ++ x ∷ [])) c ≡ (has_number found c || (x == c))
+    by false e = has-append found (x ∷ []) c ∙ ap (λ b. has_number found c || b) (or-false (x == c))
+    by true e = absorbed (has_number found c) (x == c) (at-same (has_number found) x c ∙ ap (λ b. b && (x == c)) e)
 
 with-floats-has : (found : List ℕ) (hs : List Hypothesis) (c : ℕ) → has_number (with_floats found hs) c ≡ (has_number found c || is_typed hs c)
 with-floats-has found [] c = sym (or-false (has_number found c))
-with-floats-has found (Float x ∷ hs) c = with-floats-has (with_number found x) hs c ∙ ap (λ b. b || is_typed hs c) (with-number-has found x c) ∙ shuffle (has_number found c) (c == x) (is_typed hs c)
-  where
-    shuffle : (a b d : Bool) → ((a || b) || d) ≡ (a || (b || d))
-    shuffle a b d = grind arith
+with-floats-has found (Float x ∷ hs) c =
+    with-floats-has (with_number found x) hs c ∙ ap (λ b. b || is_typed hs c) (with-number-has found x c ∙ ap (λ b. has_number found c || b) (turn x c)) ∙ or_assoc (has_number found c) (c == x) (is_typed hs c)
 with-floats-has found (Essential p ∷ hs) c = with-floats-has found hs c
 
 -- a number is one of the variables exactly if it is that of a `$f`
@@ -110,10 +107,6 @@ filter-same : (n : ℕ) (p q : ℕ → Bool) (xs : List ℕ) → ((y : ℕ) → 
 filter-same n p q [] h b = refl
 filter-same n p q (x ∷ xs) h b = rw (h x b.0, filter-same n p q xs h b.1) refl
 
-pub below-push : (n : ℕ) (xs : List ℕ) (x : ℕ) → AreBelow n xs → x < n → AreBelow n (xs ++ x ∷ [])
-below-push n [] x b l = (l, tt)
-below-push n (y ∷ xs) x b l = (b.0, below-push n xs x b.1 l)
-
 -- relations that agree on the numbers give the same lists
 pub pair-lists-same : (n : ℕ) (p q : ℕ → ℕ → Bool) (before xs : List ℕ) → ((x y : ℕ) → x < n → y < n → p x y ≡ q x y) → AreBelow n before → AreBelow n xs → pair_lists p before xs ≡ pair_lists q before xs
 pair-lists-same n p q before [] h a b = refl
@@ -147,18 +140,16 @@ pairs-below n p variables b = all-below-filter n has_two_or_more_items (pair_lis
 -- ---- the others in another order
 
 reordered-two : (l m : List ℕ) → IsReordered l m → has_two_or_more_items m ≡ has_two_or_more_items l
-reordered-two [] m h = absurd h
-reordered-two (x ∷ xs) [] h = absurd h
 reordered-two (x ∷ []) (y ∷ []) h = refl
 reordered-two (x ∷ []) (y ∷ z ∷ ys) h = absurd (true≢false (sym (ap (λ b. b || has_number ys z) (own z)) ∙ h.1.each z))
 reordered-two (x ∷ w ∷ xs) (y ∷ []) h = absurd (true≢false (sym (ap (λ b. b || has_number xs w) (own w)) ∙ sym (h.1.each w)))
 reordered-two (x ∷ w ∷ xs) (y ∷ z ∷ ys) h = refl
+reordered-two l m h = absurd h
 
 reordered-push : (a b : List (List ℕ)) (l m : List ℕ) → AreReordered a b → IsReordered l m → AreReordered (a ++ l ∷ []) (b ++ m ∷ [])
 reordered-push [] [] l m all one = (one, tt)
-reordered-push [] (y ∷ b) l m all one = absurd all
-reordered-push (x ∷ a) [] l m all one = absurd all
 reordered-push (x ∷ a) (y ∷ b) l m all one = (all.0, reordered-push a b l m all.1 one)
+reordered-push a b l m all one = absurd all
 
 -- one more list is kept if it has two or more numbers
 pub reordered-more : (a b : List (List ℕ)) (l m : List ℕ) → AreReordered (filter has_two_or_more_items a) b → IsReordered l m → AreReordered (filter has_two_or_more_items (a ++ l ∷ [])) (with_list m b)
@@ -170,15 +161,13 @@ reordered-more a b l m all one =
     by false = rw (append-nil (filter has_two_or_more_items a)) all
 
 pub list-below : (n : ℕ) (l m : List ℕ) → IsReordered l m → AreBelow n l → AreBelow n m
-list-below n [] m h k = absurd h
-list-below n (c ∷ l) [] h k = absurd h
 list-below n (c ∷ l) (d ∷ m) h k = (let same = h.0 in let less = k.0 in omega (arith, same, less), below-each n m (λ e has. each-below n l e k.1 (sym (h.1.each e) ∙ has)))
+list-below n l m h k = absurd h
 
 pub reordered-below : (n : ℕ) (a b : List (List ℕ)) → AreReordered a b → AllBelow n a → AllBelow n b
 reordered-below n [] [] all low = tt
-reordered-below n [] (y ∷ b) all low = absurd all
-reordered-below n (x ∷ a) [] all low = absurd all
 reordered-below n (x ∷ a) (y ∷ b) all low = (list-below n x y all.0 low.0, reordered-below n a b all.1 low.1)
+reordered-below n a b all low = absurd all
 
 -- ---- names in place of numbers
 
@@ -211,57 +200,37 @@ adds-none before old = record { more = []; whole = sym (append-nil old); each = 
     none : (a b : Bool) → a ≡ (a || (b && false))
     none a b = grind arith
 
+joined : (o b t e : Bool) → ((o || (b && t)) || (b && e)) ≡ (o || (b && (t || e)))
+joined o b t e = grind arith
+
 -- one more symbol is read: it is added if it is one of the variables before
 pub adds-more : (before symbols old list : List ℕ) (n : ℕ) → n < length symbols → AddsBefore before (take n symbols) old list
     → AddsBefore before (take (n + 1) symbols) old (cond (has_number before (get_or symbols n 0)) (with_number list (get_or symbols n 0)) list)
-adds-more before symbols old list n low adds = by (has_number before x) refl
+adds-more before symbols old list n low adds = record {
+  more = adds.more ++ tail;
+  whole = longer ∙ (ap (λ l. l ++ tail) adds.whole ∙ append_assoc old adds.more tail);
+  each = λ c. (
+      has c ∙ (ap (λ b. b || (has_number before x && (x == c))) (adds.each c)
+      ∙ (ap (λ b. (has_number old c || (has_number before c && has_number (take n symbols) c)) || b) (sym (at-same (has_number before) x c))
+      ∙ (joined (has_number old c) (has_number before c) (has_number (take n symbols) c) (x == c)
+      ∙ ap (λ t. has_number old c || (has_number before c && t)) (sym (list_any_more (λ d. d == c) symbols n 0 low))))));
+  once = λ once. elim (has_number before x) as (λ b. IsEachOnce (cond b (with_number list x) list)) [ true ↦ with-number-once list x (adds.once once) | false ↦ adds.once once ];
+}
   where
     x : ℕ
     x = get_or symbols n 0
 
-    more-symbols : (c : ℕ) → has_number (take (n + 1) symbols) c ≡ (has_number (take n symbols) c || (x == c))
-    more-symbols c = list_any_more (λ d. d == c) symbols n 0 low
+    tail : List ℕ
+    tail = cond (has_number before x) (cond (has_number list x) [] (x ∷ [])) []
 
-    with : (c : ℕ) (o b t : Bool) → has_number before x ≡ true → has_number before c ≡ b → ((o || (b && t)) || (c == x)) ≡ (o || (b && (t || (x == c))))
-    with c o b t h e = one (c == x) refl
-      where
-        one : (s : Bool) → (c == x) ≡ s → ((o || (b && t)) || s) ≡ (o || (b && (t || (x == c))))
-        one true k = let same : c ≡ x = grind (arith, k) in let yes : b ≡ true = sym e ∙ (ap (has_number before) same ∙ h) in rw (yes, turn x c, k) (all o t)
-          where
-            all : (o t : Bool) → ((o || (true && t)) || true) ≡ (o || (true && (t || true)))
-            all o t = grind arith
-        one false k = rw (turn x c, k) (all o b t)
-          where
-            all : (o b t : Bool) → ((o || (b && t)) || false) ≡ (o || (b && (t || false)))
-            all o b t = grind arith
+    longer : cond (has_number before x) (with_number list x) list ≡ list ++ tail
+    longer = elim (has_number before x) as (λ b. cond b (with_number list x) list ≡ list ++ cond b (cond (has_number list x) [] (x ∷ [])) []) [
+      | true ↦ elim (has_number list x) as (λ b. cond b list (list ++ x ∷ []) ≡ list ++ cond b [] (x ∷ [])) [ true ↦ sym (append-nil list) | false ↦ refl ]
+      | false ↦ sym (append-nil list)
+    ]
 
-    without : (c : ℕ) (o b t : Bool) → has_number before x ≡ false → has_number before c ≡ b → (o || (b && t)) ≡ (o || (b && (t || (x == c))))
-    without c o b t h e = one (x == c) refl
-      where
-        one : (s : Bool) → (x == c) ≡ s → (o || (b && t)) ≡ (o || (b && (t || s)))
-        one true k = let same : c ≡ x = grind (arith, k) in let no_more : b ≡ false = sym e ∙ (ap (has_number before) same ∙ h) in rw no_more refl
-        one false k = rw (or-false t) refl
-
-    by : (b : Bool) → has_number before x ≡ b → AddsBefore before (take (n + 1) symbols) old (cond b (with_number list x) list)
-    by true h = record {
-      more = adds.more ++ tail (has_number list x);
-      whole = at (has_number list x);
-      each = λ c. with-number-has list x c ∙ (ap (λ b. b || (c == x)) (adds.each c) ∙ (with c (has_number old c) (has_number before c) (has_number (take n symbols) c) h refl ∙ ap (λ t. has_number old c || (has_number before c && t)) (sym (more-symbols c))));
-      once = λ once. with-number-once list x (adds.once once);
-    }
-      where
-        tail : Bool → List ℕ
-        tail t = cond t [] (x ∷ [])
-
-        at : (t : Bool) → cond t list (list ++ x ∷ []) ≡ old ++ (adds.more ++ cond t [] (x ∷ []))
-        at true = adds.whole ∙ ap (λ l. old ++ l) (sym (append-nil adds.more))
-        at false = ap (λ l. l ++ x ∷ []) adds.whole ∙ append_assoc old adds.more (x ∷ [])
-    by false h = record {
-      more = adds.more;
-      whole = adds.whole;
-      each = λ c. adds.each c ∙ (without c (has_number old c) (has_number before c) (has_number (take n symbols) c) h refl ∙ ap (λ t. has_number old c || (has_number before c && t)) (sym (more-symbols c)));
-      once = adds.once;
-    }
+    has : (c : ℕ) → has_number (cond (has_number before x) (with_number list x) list) c ≡ (has_number list c || (has_number before x && (x == c)))
+    has c = elim (has_number before x) as (λ b. has_number (cond b (with_number list x) list) c ≡ (has_number list c || (b && (x == c)))) [ true ↦ with-number-has list x c | false ↦ sym (or-false (has_number list c)) ]
 
 -- the list found so far, which begins with the variable, and what the rest of the `$d` would add
 pub record IsFound (before : List ℕ) (variable : ℕ) (all rest : List (List ℕ)) (list : List ℕ) : Type 0 where
@@ -278,12 +247,9 @@ found-more before variable all rest symbols list new f adds = record {
   others = f.others ++ adds.more;
   is = adds.whole ∙ ap (λ l. l ++ adds.more) f.is;
   each = λ c. ap (λ b. b || (has_number before c && list_any (λ l. has_number l c) rest)) (adds.each c)
-      ∙ (shuffle (has_number list c) (has_number before c) (has_number symbols c) (list_any (λ l. has_number l c) rest) ∙ f.each c);
+      ∙ (joined (has_number list c) (has_number before c) (has_number symbols c) (list_any (λ l. has_number l c) rest) ∙ f.each c);
   once = adds.once f.once;
 }
-  where
-    shuffle : (a b s r : Bool) → ((a || (b && s)) || (b && r)) ≡ (a || (b && (s || r)))
-    shuffle a b s r = grind arith
 
 any-lists : (c : ℕ) (lists : List (List ℕ)) → list_any (λ l. has_number l c) lists ≡ list_any (λ l. list_any (λ d. c == d) l) lists
 any-lists c [] = refl
@@ -292,10 +258,10 @@ any-lists c (l ∷ lists) = ap (λ b. b || list_any (λ m. has_number m c) lists
 pub filter-has : (p : ℕ → Bool) (xs : List ℕ) (c : ℕ) → has_number (filter p xs) c ≡ (p c && has_number xs c)
 filter-has p xs c = any-filter_same (λ d. d == c) p (p c) (λ d e. let same : d ≡ c = grind (arith, e) in ap p same) xs
 
-below-take : (n k : ℕ) (xs : List ℕ) → AreBelow n xs → AreBelow n (take k xs)
-below-take n zero xs b = tt
-below-take n (suc k) [] b = tt
-below-take n (suc k) (x ∷ xs) b = (b.0, below-take n k xs b.1)
+-- two tests with a third are the same if they are where the third holds
+guarded : (b p q : Bool) → (b ≡ true → p ≡ q) → (p && b) ≡ (q && b)
+guarded true p q h = ap (λ t. t && true) (h refl)
+guarded false p q h = and-false p ∙ sym (and-false q)
 
 -- when all `$d` are read, the list is that of the variable
 pub found-end : (v : Numbered) (variables : List ℕ) (index variable : ℕ) (all rest : List (List ℕ)) (list : List ℕ) → slice_get variables index ≡ Some variable → AreBelow (length v.names) variables
@@ -304,42 +270,37 @@ pub found-end : (v : Numbered) (variables : List ℕ) (index variable : ℕ) (al
 found-end v variables index variable all rest list stands low pairs none f = record {
   whole = variable ∷ filter (is_numbered_pair v variable) (take index variables);
   stands = pair-lists-at (is_numbered_pair v) [] variables index variable stands;
-  reordered = subst (IsReordered (variable ∷ filter (is_numbered_pair v variable) (take index variables))) (sym f.is) (refl, record { each = each; once = (subst IsEachOnce f.is f.once).1 });
+  reordered = subst (IsReordered (variable ∷ filter (is_numbered_pair v variable) (take index variables))) (sym f.is) (refl, record { each = each; once = others-once.1 });
 }
   where
     before : List ℕ
     before = take index variables
 
-    own-once : has_number f.others variable ≡ false
-    own-once = (subst IsEachOnce f.is f.once).0
+    others-once : IsEachOnce (variable ∷ f.others)
+    others-once = subst IsEachOnce f.is f.once
 
-    listed : (c : ℕ) → ((variable == c) || has_number f.others c) ≡ ((variable == c) || (has_number before c && list_any (λ l. has_number l c) all))
-    listed c = ap (λ l. has_number l c) (sym f.is) ∙ (sym (last (has_number list c) (has_number before c)) ∙ (ap (λ r. has_number list c || (has_number before c && list_any (λ l. has_number l c) r)) (sym none) ∙ f.each c))
-      where
-        last : (a b : Bool) → (a || (b && false)) ≡ a
-        last a b = grind arith
+    row : ℕ → Bool
+    row c = list_any (λ l. list_any (λ d. c == d) l) all
+
+    listed : (c : ℕ) → ((variable == c) || has_number f.others c) ≡ ((variable == c) || (has_number before c && row c))
+    listed c =
+        ap (λ l. has_number l c) (sym f.is)
+        ∙ (sym (ap (λ b. has_number list c || b) (and-false (has_number before c)) ∙ or-false (has_number list c))
+        ∙ (ap (λ r. has_number list c || (has_number before c && list_any (λ l. has_number l c) r)) (sym none) ∙ (f.each c ∙ ap (λ r. (variable == c) || (has_number before c && r)) (any-lists c all))))
+
+    found : (c : ℕ) → has_number f.others c ≡ ((not (variable == c) && row c) && has_number before c)
+    found c = elim (cases_Bool (variable == c)) [
+      | inl same ↦ let is : variable ≡ c = grind (arith, same) in ap (has_number f.others) (sym is) ∙ (others-once.0 ∙ sym (ap (λ s. (not s && row c) && has_number before c) same))
+      | inr other ↦
+          let direct : has_number f.others c ≡ (has_number before c && row c) = rw other at (listed c) in
+          direct ∙ (and_comm (has_number before c) (row c) ∙ sym (ap (λ s. (not s && row c) && has_number before c) other))
+    ]
 
     each : (c : ℕ) → has_number f.others c ≡ has_number (filter (is_numbered_pair v variable) before) c
-    each c = by (has_number before c) refl (variable == c) refl ∙ sym (filter-has (is_numbered_pair v variable) before c)
-      where
-        tell : (s a b r : Bool) → s ≡ false → (s || a) ≡ (s || (b && r)) → a ≡ (b && r)
-        tell false a b r e h = h
-        tell true a b r e h = absurd (true≢false e)
-
-        by : (b : Bool) → has_number before c ≡ b → (s : Bool) → (variable == c) ≡ s → has_number f.others c ≡ (is_numbered_pair v variable c && has_number before c)
-        by true e true k =
-            let same : variable ≡ c = grind (arith, k) in
-            let less : c < length v.names = each-below (length v.names) before c (below-take (length v.names) index variables low) e in
-            ap (has_number f.others) (sym same) ∙ (own-once ∙ sym (rw (pairs c less, k) refl))
-        by true e false k =
-            let less : c < length v.names = each-below (length v.names) before c (below-take (length v.names) index variables low) e in
-            tell (variable == c) (has_number f.others c) (has_number before c) (list_any (λ l. has_number l c) all) k (listed c)
-            ∙ rw (e, pairs c less, k, any-lists c all) (last (list_any (λ l. list_any (λ d. c == d) l) all))
-          where
-            last : (a : Bool) → a ≡ (a && true)
-            last a = grind arith
-        by false e true k = let same : variable ≡ c = grind (arith, k) in ap (has_number f.others) (sym same) ∙ (own-once ∙ rw e (sym (and-false (is_numbered_pair v variable c))))
-        by false e false k = tell (variable == c) (has_number f.others c) (has_number before c) (list_any (λ l. has_number l c) all) k (listed c) ∙ rw e (sym (and-false (is_numbered_pair v variable c)))
+    each c =
+        found c
+        ∙ (sym (guarded (has_number before c) (is_numbered_pair v variable c) (not (variable == c) && row c) (λ e. pairs c (each-below (length v.names) before c (below-take (length v.names) index variables low) e)))
+        ∙ sym (filter-has (is_numbered_pair v variable) before c))
 
 get-has : (xs : List ℕ) (j c : ℕ) → slice_get xs j ≡ Some c → has_number xs c ≡ true
 get-has [] j c h = cc
@@ -374,20 +335,15 @@ take-has (x ∷ xs) (suc k) c h = let p = or_parts (x == c) (has_number xs c) h 
 pub record AreAdded (p : ℕ → ℕ → Bool) (variables : List ℕ) (n : ℕ) (made : List (List ℕ)) : Type 0 where
   pub so_far : AreReordered (filter has_two_or_more_items (take n (pair_lists p [] variables))) made
 
-take-next : {A : Type 0} (xs : List A) (n : ℕ) (x : A) → slice_get xs n ≡ Some x → take (n + 1) xs ≡ take n xs ++ x ∷ []
-take-next {A = A} xs n x h = let one : n + 1 ≡ suc n = omega arith in ap (λ m. take m xs) one ∙ at xs n h
-  where
-    at : (ys : List A) (m : ℕ) → slice_get ys m ≡ Some x → take (suc m) ys ≡ take m ys ++ x ∷ []
-    at [] m h = cc
-    at (y ∷ ys) zero h = let same : y ≡ x = cc in rw same refl
-    at (y ∷ ys) (suc m) h = ap (λ l. y ∷ l) (at ys m h)
-
 pub added-none : (p : ℕ → ℕ → Bool) (variables : List ℕ) (made : List (List ℕ)) → made ≡ [] → AreAdded p variables 0 made
 added-none p variables made none = record { so_far = rw none tt }
 
 pub added-more : (v : Numbered) (variables : List ℕ) (n : ℕ) (made : List (List ℕ)) (list : List ℕ) → AreAdded (is_numbered_pair v) variables n made → IsPairList v variables n list → AreAdded (is_numbered_pair v) variables (n + 1) (with_list list made)
 added-more v variables n made list so is = record {
-  so_far = subst (λ l. AreReordered (filter has_two_or_more_items l) (with_list list made)) (sym (take-next (pair_lists (is_numbered_pair v) [] variables) n is.whole is.stands)) (reordered-more (take n (pair_lists (is_numbered_pair v) [] variables)) made is.whole list so.so_far is.reordered);
+  so_far =
+      let L = pair_lists (is_numbered_pair v) [] variables in
+      let one : n + 1 ≡ suc n = omega arith in
+      subst (λ l. AreReordered (filter has_two_or_more_items l) (with_list list made)) (sym (ap (λ m. take m L) one ∙ take-one L n is.whole is.stands)) (reordered-more (take n (pair_lists (is_numbered_pair v) [] variables)) made is.whole list so.so_far is.reordered);
 }
 
 pub added-all : (p : ℕ → ℕ → Bool) (variables : List ℕ) (n : ℕ) (made : List (List ℕ)) → length variables ≤ n → AreAdded p variables n made → AreReordered (pairs_by p variables) made

@@ -1,23 +1,18 @@
 -- Pairs of variables in an active `$d`, and active variables, by the active statements that have a
 -- symbol.
-use Rattle.frame.proofs.Words.{are_together, disjoint_symbols, ◌≡◌, ◌∙◌, ap, sym, arith, refl, ℕ, suc, ◌+◌, ◌-◌, ◌<◌, Bool, true, false, cond, not, ◌||◌, ◌&&◌, ◌==◌, nat_eq, List, [], ◌∷◌, ◌++◌, length, map, filter, take, slice_get, Option, Some, None, same_Some, list_any, or-false, append_assoc, length-append, take-get, list_any-map, AllBelow, AreBelow, Name, has_name, name_at, decode, AreDistinct, Stmt, Database, Entry, Storage, stays_open, active_from, actives, actives_from, is_disj, is_var, is_variable, disjoint_names, variables, is_pair, active_disjoint_lists, names_in, labels_in, statements_of, stmt_of, AreStored, symbols_at, option_symbols, has_code, having_after, positions_with, IsOfKind, AreOfKind, AreListsOfPairs, have_both, subst}
+use Rattle.frame.proofs.Words.{and-true, or_assoc, or_comm, are_together, disjoint_symbols, ◌≡◌, ◌∙◌, ap, sym, arith, refl, ℕ, ◌+◌, ◌-◌, ◌<◌, Bool, true, false, cond, not, ◌||◌, ◌&&◌, ◌==◌, nat_eq, List, [], ◌∷◌, ◌++◌, length, map, take, slice_get, Option, Some, None, list_any, or-false, append_assoc, length-append, take-get, list_any-map, AllBelow, AreBelow, Name, has_name, name_at, decode, AreDistinct, Stmt, Database, Entry, Storage, stays_open, actives, actives_from, is_disj, is_var, is_variable, disjoint_names, variables, is_pair, active_disjoint_lists, names_in, labels_in, statements_of, stmt_of, AreStored, symbols_at, option_symbols, has_code, having_after, positions_with, IsOfKind, AreOfKind, AreListsOfPairs, have_both, subst, and_parts}
+use Rattle.frame.proofs.ActivePositions.{actives-cons}
 use Rattle.frame.proofs.FoundByNumber.{map-back}
 use Rattle.frame.proofs.LegalAfter.{stands-at}
-use Rattle.frame.proofs.MentionListLemmas.{with-below}
 use Rattle.frame.proofs.StoredOneMore.{numbered-at}
 use Rattle.frame.proofs.KindWalk.{AreLists, any-active, has-decode, same-number, disjoint_lists, variable_lists}
-use Rattle.frame.proofs.PositionsWith.{AreIn, actives-in, positions_with-push}
-use Rattle.frame.proofs.LastActiveLemmas.{actives-push, length-cut}
-use Rattle.frame.proofs.OpenLemmas.{no_close}
-use Rattle.frame.proofs.BlockWalkLemmas.{take-one}
+use Rattle.frame.proofs.PositionsWith.{AreIn, actives-in}
 use Rattle.frame.proofs.PairsLemmas.{groups-any}
 
 -- ---- the positions of the statements that have a symbol
 
 swapped : (x y z : Bool) → ((x || y) || z) ≡ (y || (x || z))
-swapped true true z = refl
-swapped true false z = refl
-swapped false y z = refl
+swapped x y z = ap (λ b. b || z) (or_comm x y) ∙ or_assoc y x z
 
 positions_with-any-after : (q : ℕ → Bool) (found : List ℕ) (es : List Entry) (c : ℕ) (ps : List (ℕ × Stmt)) → list_any q (having_after found es c ps) ≡ (list_any q found || list_any (λ p. has_code es c p.0 && q p.0) ps)
 positions_with-any-after q found es c [] = sym (or-false (list_any q found))
@@ -55,15 +50,10 @@ AreThere S kind (p ∷ ps) = ((slice_get S (p.0 - 1) ≡ Some p.1) × (kind p.1 
 pub actives-there : (kind : Stmt → Bool) (whole front : Database) (at : ℕ) (S : Database) → at ≡ 1 + length front → whole ≡ front ++ S → AreThere whole kind (actives_from kind at S)
 actives-there kind whole front at [] is cut = tt
 actives-there kind whole front at (s ∷ S) is cut =
-    by (stays_open 0 S) (kind s) refl (actives-there kind whole (front ++ s ∷ []) (at + 1) S (omega (arith, is, length-append front (s ∷ []))) (cut ∙ sym (append_assoc front (s ∷ []) S)))
-  where
-    here : slice_get whole (at - 1) ≡ Some s
-    here = ap (slice_get whole) (omega (arith, is)) ∙ (ap (λ T. slice_get T (length front)) cut ∙ stands-at front s S)
-
-    by : (b x : Bool) → kind s ≡ x → AreThere whole kind (actives_from kind (at + 1) S) → AreThere whole kind (filter (λ p. kind p.1) (cond b ((at, s) ∷ active_from (at + 1) S) (active_from (at + 1) S)))
-    by true true e r = rw e ((here, e), r)
-    by true false e r = rw e r
-    by false x e r = r
+    let here : slice_get whole (at - 1) ≡ Some s = ap (slice_get whole) (omega (arith, is)) ∙ (ap (λ T. slice_get T (length front)) cut ∙ stands-at front s S) in
+    let rest = actives-there kind whole (front ++ s ∷ []) (at + 1) S (omega (arith, is, length-append front (s ∷ []))) (cut ∙ sym (append_assoc front (s ∷ []) S)) in
+    subst (AreThere whole kind) (sym (actives-cons kind at s S))
+    ((elim (stays_open 0 S && kind s) as (λ b. (stays_open 0 S && kind s) ≡ b → AreThere whole kind (cond b ((at, s) ∷ actives_from kind (at + 1) S) (actives_from kind (at + 1) S))) [ true ↦ λ e. ((here, (and_parts (stays_open 0 S) (kind s) e).1), rest) | false ↦ λ e. rest ]) refl)
 
 same-any : (kind : Stmt → Bool) (S : Database) (f g : ℕ × Stmt → Bool) (ps : List (ℕ × Stmt)) → AreThere S kind ps → ((p : ℕ × Stmt) → slice_get S (p.0 - 1) ≡ Some p.1 → kind p.1 ≡ true → f p ≡ g p) → list_any f ps ≡ list_any g ps
 same-any kind S f g [] are same = refl
@@ -98,10 +88,6 @@ module _ (k : Storage) (stored : AreStored k) (d : AreDistinct (names_in k)) (m 
       ∙ (same-any is_var T (λ p. has_code k.entries x p.0 && true) (λ p. has_name (name_at N x) (variables p.1)) (actives is_var T) (there is_var)
       (λ p s o. and-true (has_code k.entries x p.0) ∙ code-name is_var variables variable_lists x lt p s o)
       ∙ any-active (has_name (name_at N x)) T variable_lists refl))
-    where
-      and-true : (b : Bool) → (b && true) ≡ b
-      and-true true = refl
-      and-true false = refl
 
   -- x and y are a pair exactly if they are different and an active `$d` that has x has y
   pub pair-is : (x y : ℕ) (st : List ℕ) → x < length N → y < length N → st ≡ positions_with k.entries x (actives is_disj T)
@@ -169,48 +155,3 @@ module _ (k : Storage) (stored : AreStored k) (d : AreDistinct (names_in k)) (m 
           ∙ (ap (λ t. not t && list_any (λ p. has_code es b p) own) other
           ∙ (positions_with-any (λ p. has_code es b p) es a listed
           ∙ second-any (λ p. has_code es x p.0) (λ p. both p.0) listed (sym (positions_with-any both es x listed) ∙ of_row)))
-
--- ---- the symbols of one `$d`
-
--- right after a `$d`, it is the last active one exactly of its symbols
-module _ (k : Storage) (p c : ℕ) (of_kind : IsOfKind is_disj (statements_of k) p) (st : List ℕ) (is : st ≡ positions_with k.entries c (actives is_disj (take (p + 1 - 1) (statements_of k)))) where
-  abbrev rest : List ℕ
-  rest = positions_with k.entries c (actives is_disj (take (p - 1) (statements_of k)))
-
-  stack-is : st ≡ cond (has_code k.entries c p) (p ∷ rest) rest
-  stack-is =
-      let S = statements_of k in
-      let one = of_kind.one in
-      let place : 1 + length (take (p - 1) S) ≡ p = omega (arith, one, length-cut S (p - 1) of_kind.statement of_kind.stands) in
-      let up : p + 1 - 1 ≡ suc (p - 1) = omega (arith, one) in
-      is
-      ∙ (ap (λ n. positions_with k.entries c (actives is_disj (take n S))) up
-      ∙ (ap (positions_with k.entries c) (ap (actives is_disj) (take-one S (p - 1) of_kind.statement of_kind.stands)
-      ∙ (actives-push is_disj (take (p - 1) S) of_kind.statement (no_close is_disj of_kind.statement refl of_kind.of_kind) ∙ last place))
-      ∙ positions_with-push k.entries c (actives is_disj (take (p - 1) S)) (p, of_kind.statement)))
-    where
-      last : 1 + length (take (p - 1) (statements_of k)) ≡ p
-          → actives is_disj (take (p - 1) (statements_of k)) ++ cond (is_disj of_kind.statement) ((1 + length (take (p - 1) (statements_of k)), of_kind.statement) ∷ []) []
-          ≡ actives is_disj (take (p - 1) (statements_of k)) ++ (p, of_kind.statement) ∷ []
-      last place = rw (of_kind.of_kind, place) refl
-
-  -- the other active `$d` are before this one
-  rest-less : AreBelow p rest
-  rest-less =
-      let one = of_kind.one in
-      subst (λ n. AreBelow n rest) (omega (arith, one, length-cut (statements_of k) (p - 1) of_kind.statement of_kind.stands)) (with-below is_disj k.entries c (take (p - 1) (statements_of k)))
-
-  pub top-some : (last : ℕ) → Some last ≡ slice_get st 0 → nat_eq last p ≡ has_code k.entries c p
-  top-some last top = by (has_code k.entries c p) rest (top ∙ ap (λ l. slice_get l 0) stack-is) rest-less
-    where
-      by : (b : Bool) (r : List ℕ) → Some last ≡ slice_get (cond b (p ∷ r) r) 0 → AreBelow p r → nat_eq last p ≡ b
-      by true r e less = let same : last ≡ p = same_Some last p e in grind (arith, same)
-      by false [] e less = cc
-      by false (x ∷ r) e less = let same : last ≡ x = same_Some last x e in let low = less.0 in grind (arith, same, low)
-
-  pub top-none : None ≡ slice_get st 0 → false ≡ has_code k.entries c p
-  top-none top = by (has_code k.entries c p) (top ∙ ap (λ l. slice_get l 0) stack-is)
-    where
-      by : (b : Bool) → None ≡ slice_get (cond b (p ∷ rest) rest) 0 → false ≡ b
-      by true e = cc
-      by false e = refl

@@ -1,5 +1,6 @@
 -- The positions of the active statements that have a symbol.
-use Rattle.frame.proofs.Words.{◌≡◌, ◌∙◌, ap, arith, refl, ℕ, zero, suc, ◌+◌, ◌-◌, ◌≤◌, Bool, true, false, cond, nat_eq, List, [], ◌∷◌, ◌++◌, length, filter, take, length-take, list_any, Stmt, Database, Entry, stays_open, active_from, actives, actives_from, option_symbols, has_code, having_after, positions_with, opening}
+use Rattle.frame.proofs.Words.{◌≡◌, ◌∙◌, ap, arith, refl, ℕ, zero, suc, ◌+◌, ◌-◌, ◌≤◌, Bool, true, false, cond, nat_eq, List, [], ◌∷◌, ◌++◌, length, take, length-take, list_any, Stmt, Database, Entry, stays_open, actives, actives_from, option_symbols, has_code, having_after, positions_with, opening, sym, subst, ◌&&◌}
+use Rattle.frame.proofs.ActivePositions.{actives-cons}
 use Rattle.frame.proofs.BlockWalkLemmas.{get-take}
 
 -- ---- the positions of the statements that have a symbol
@@ -17,12 +18,10 @@ AreIn from to (p ∷ ps) = ((from ≤ p.0) × (p.0 ≤ to)) × AreIn from to ps
 
 pub actives-in : (kind : Stmt → Bool) (low at high : ℕ) (S : Database) → low ≤ at → at + length S ≤ high + 1 → AreIn low high (actives_from kind at S)
 actives-in kind low at high [] le h = tt
-actives-in kind low at high (s ∷ S) le h = by (stays_open 0 S) (kind s) refl (actives-in kind low (at + 1) high S (omega (arith, le)) (omega (arith, h)))
-  where
-    by : (b x : Bool) → kind s ≡ x → AreIn low high (actives_from kind (at + 1) S) → AreIn low high (filter (λ p. kind p.1) (cond b ((at, s) ∷ active_from (at + 1) S) (active_from (at + 1) S)))
-    by true true e r = rw e ((le, omega (arith, h)), r)
-    by true false e r = rw e r
-    by false x e r = r
+actives-in kind low at high (s ∷ S) le h =
+    let rest = actives-in kind low (at + 1) high S (omega (arith, le)) (omega (arith, h)) in
+    subst (AreIn low high) (sym (actives-cons kind at s S))
+    (elim (stays_open 0 S && kind s) as (λ b. AreIn low high (cond b ((at, s) ∷ actives_from kind (at + 1) S) (actives_from kind (at + 1) S))) [ true ↦ ((le, omega (arith, h)), rest) | false ↦ rest ])
 
 positions_with-same : (found : List ℕ) (es fs : List Entry) (c n : ℕ) (ps : List (ℕ × Stmt)) → AreIn 1 n ps → ((p : ℕ) → 1 ≤ p → p ≤ n → has_code es c p ≡ has_code fs c p) → having_after found es c ps ≡ having_after found fs c ps
 positions_with-same found es fs c n [] are same = refl

@@ -1,5 +1,5 @@
 -- The parts of the storage after a statement is appended: numbers, labels, positions, symbols.
-use Rattle.frame.proofs.Words.{sym, ◌∙◌, ap, subst, arith, inl, inr, add-zero, ◌≡◌, ℕ, zero, suc, ◌+◌, ◌-◌, ◌<◌, ◌≤◌, Bool, true, false, cond, not, ◌&&◌, nat_lt, ◌⊎◌, List, [], ◌∷◌, ◌++◌, length, map, take, slice_get, Option, Some, None, refl, and-false, take-append-le, cases_lt, ltb-true, take-append_seam, Name, Stmt, Database, before, label_of, stays_open, is_close, is_open, count, IsLegal, G10, name_at, decode, AreBelow, LastActive, Kind, Float, Ess, Axiom, Prove, Entry, stmt_by, stmt_of, positions_from, option_position, AreAllLegal, last_float, AreGivenBy, is_float_with, second_is, is_float_kind, last_from, IsLabelBelow, HasTwoSymbolsIfFloat, AreNumbered, AreZero, AreZeroAfter, AreKept, Extends, get-more, place, stays_open-append, below-deficit, no_deficit, deficit-close, count-left_open, get-push}
+use Rattle.frame.proofs.Words.{sym, ◌∙◌, ap, subst, arith, inl, inr, add-zero, ◌≡◌, ℕ, zero, suc, ◌+◌, ◌-◌, ◌<◌, ◌≤◌, Bool, true, false, cond, not, nat_lt, ◌⊎◌, List, [], ◌∷◌, ◌++◌, length, map, take, slice_get, Option, Some, None, refl, take-append-le, ltb-true, take-append_seam, Name, Stmt, Database, before, label_of, stays_open, is_close, is_open, count, IsLegal, G10, name_at, decode, AreBelow, Kind, Float, Ess, Axiom, Prove, Entry, stmt_by, stmt_of, positions_from, option_position, AreAllLegal, IsLabelBelow, HasTwoSymbolsIfFloat, AreNumbered, Extends, place, stays_open-append, below-deficit, no_deficit, deficit-close, count-left_open, get-push}
 use Rattle.frame.proofs.SymbolNumberLemmas.{decode-extends, name_at-extends, below-more}
 use Rattle.mm_read.specs.declared.stmt.Stmt.TheVariants as stmt
 
@@ -71,43 +71,9 @@ stays-push S stmt.Close h l =
     below-deficit 0 (S ++ stmt.Close ∷ []) (omega (arith, more, deficit-close S, count-left_open S, no_deficit S h))
 stays-push S s h l = stays_open-append 0 S s refl ∙ h
 
--- ---- a number that no entry uses
-
-above-second : (n c : ℕ) (codes : List ℕ) → AreBelow n codes → n ≤ c → second_is c codes ≡ false
-above-second n c (x ∷ y ∷ codes) h le = let a = h.1.0 in let l : y < c = omega (arith, a, le) in grind (arith, l)
-above-second n c codes h le = refl
-
-none-from : (test : Entry → Bool) (found at : ℕ) (es : List Entry) → ((e : Entry) (k : ℕ) → slice_get es k ≡ Some e → test e ≡ false) → last_from test found at es ≡ found
-none-from test found at [] h = refl
-none-from test found at (e ∷ es) h =
-    ap (λ b. last_from test (cond b at found) (at + 1) es) (h e 0 refl) ∙ none-from test found (at + 1) es (λ d k g. h d (suc k) g)
+-- ---- an entry uses only numbers of symbols
 
 pub numbered-at : (n m : ℕ) (es : List Entry) → AreNumbered n m es → (k : ℕ) (e : Entry) → slice_get es k ≡ Some e → AreBelow n e.symbols
 numbered-at n m [] h k e g = cc
 numbered-at n m (d ∷ es) h zero e g = let same : d ≡ e = cc in subst (λ x. AreBelow n x.symbols) same h.0
 numbered-at n m (d ∷ es) h (suc k) e g = numbered-at n m es h.2 k e g
-
-pub last_float-above : (n m : ℕ) (es : List Entry) (c : ℕ) → AreNumbered n m es → n ≤ c → last_float es c ≡ 0
-last_float-above n m es c h le =
-    none-from (is_float_with c) 0 1 es (λ e k g. ap (λ b. is_float_kind e.kind && b) (above-second n c e.symbols (numbered-at n m es h k e g) le) ∙ and-false (is_float_kind e.kind))
-
-get-zero : (old more : List ℕ) (c : ℕ) → AreZero more → length old ≤ c → c < length (old ++ more) → slice_get (old ++ more) c ≡ Some 0
-get-zero [] [] c z le lt = absurd (omega (arith, lt))
-get-zero [] (x ∷ more) zero z le lt = ap Some z.0
-get-zero [] (x ∷ more) (suc c) z le lt = get-zero [] more c z.1 (omega arith) (omega (arith, lt))
-get-zero (x ∷ old) more zero z le lt = absurd (omega (arith, le))
-get-zero (x ∷ old) more (suc c) z le lt = get-zero old more c z (omega (arith, le)) (omega (arith, lt))
-
--- new symbols have no `$f`
-pub still-reads : (names labels : List Name) (positions floats replaced : List ℕ) (entries : List Entry) (last_active : LastActive) (between : List ℕ)
-    → AreKept names labels positions floats replaced entries last_active → AreZeroAfter floats between → AreGivenBy between (last_float entries)
-still-reads names labels positions floats replaced entries last_active between k z c lt = by (cases_lt c (length names))
-  where
-    by : (c < length names) ⊎ (length names ≤ c) → slice_get between c ≡ Some (last_float entries c)
-    by (inl l) = ap (λ r. slice_get r c) z.1 ∙ get-more floats z.0 c (last_float entries c) (k.floats_kept c l)
-    by (inr ge) =
-        let size : length between ≡ length (floats ++ z.0) = ap length z.1 in
-        let a = k.count in
-        ap (λ r. slice_get r c) z.1
-        ∙ (get-zero floats z.0 c z.2 (omega (arith, a, ge)) (omega (arith, size, lt))
-        ∙ ap Some (sym (last_float-above (length names) (length labels) entries c k.coded ge)))

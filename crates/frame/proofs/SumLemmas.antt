@@ -1,5 +1,5 @@
 -- Sums over mapped and filtered lists, and over lists with the same numbers.
-use Rattle.frame.proofs.Words.{◌≡◌, ℕ, ◌+◌, ◌<◌, ◌==◌, Bool, true, false, cond, not, ◌&&◌, ◌||◌, List, [], ◌∷◌, map, filter, refl, sym, ◌∙◌, ap, arith, true≢false, or_parts, AreBelow, has_number, IsEachOnce}
+use Rattle.frame.proofs.Words.{and-false, ◌≡◌, ℕ, ◌+◌, ◌<◌, ◌==◌, Bool, true, false, cond, not, ◌&&◌, ◌||◌, List, [], ◌∷◌, map, filter, refl, sym, ◌∙◌, ap, arith, true≢false, or_parts, AreBelow, has_number, IsEachOnce}
 use Rattle.std.specs.List.{sum_by}
 use Rattle.std.proofs.lemmas.List.Sums.{sum_by-cons}
 use Rattle.frame.specs.NumberedWork.{numbers_but}
@@ -31,12 +31,8 @@ pub filter-once : (p : ℕ → Bool) (xs : List ℕ) → IsEachOnce xs → IsEac
 filter-once p [] once = tt
 filter-once p (x ∷ xs) once = by (p x) (filter-once p xs once.1)
   where
-    none : (b : Bool) → (b && false) ≡ false
-    none true = refl
-    none false = refl
-
     by : (b : Bool) → IsEachOnce (filter p xs) → IsEachOnce (cond b (x ∷ filter p xs) (filter p xs))
-    by true more = (filter-has p xs x ∙ (ap (λ b. p x && b) once.0 ∙ none (p x)), more)
+    by true more = (filter-has p xs x ∙ (ap (λ b. p x && b) once.0 ∙ and-false (p x)), more)
     by false more = more
 
 -- the sum without a number of the list

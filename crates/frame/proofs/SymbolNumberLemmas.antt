@@ -1,17 +1,9 @@
 -- Numbers and their names, as names and symbols are appended.
-use Rattle.frame.proofs.Words.{replicate, take_all, zero, ◌∙◌, ap, arith, ◌≡◌, ℕ, ◌<◌, ◌≤◌, List, [], ◌∷◌, ◌++◌, length, take, refl, suc, take-append_seam, Name, name_at, decode, AreBelow, Extends, AreZero, AreZeroAfter, name_at-more}
+use Rattle.frame.proofs.Words.{◌∙◌, ap, arith, ◌≡◌, ℕ, ◌<◌, ◌≤◌, List, [], ◌∷◌, ◌++◌, length, take, refl, suc, take-append_seam, Name, name_at, decode, AreBelow, Extends, name_at-more}
 
 -- a list that is truncated to its old length is the old list
 pub take-extends : {A : Type 0} (a b : List A) → Extends a b → take (length a) b ≡ a
 take-extends a b p = ap (take (length a)) p.1 ∙ take-append_seam a p.0
-
--- zeros are appended
-pub zero-more : (a b : List ℕ) (n m : ℕ) → length a ≤ n → b ≡ take n a ++ replicate m 0 → AreZeroAfter a b
-zero-more a b n m le is = (replicate m 0, is ∙ ap (λ r. r ++ replicate m 0) (take_all n a le), zeros m)
-  where
-    zeros : (m : ℕ) → AreZero (replicate m 0)
-    zeros zero = tt
-    zeros (suc m) = (refl, zeros m)
 
 pub decode-more : (names more : List Name) (codes : List ℕ) → AreBelow (length names) codes → decode (names ++ more) codes ≡ decode names codes
 decode-more names more [] h = refl

@@ -1,8 +1,7 @@
 -- The typecode of an active `$f` is no variable, a used variable has an active `$f`, and the
 -- mandatory variables are those of the mandatory `$f`.
-use Rattle.frame.proofs.Words.{list_any, ◌∙◌, ap, inl, inr, append_assoc, ◌≡◌, ℕ, suc, Bool, true, false, ◌||◌, List, [], ◌∷◌, ◌++◌, length, refl, not, ◌&&◌, or_left, or_cases, and_parts, not_both, list_any-append, list_any-from_Any, Any-from_list_any, Name, has_name, Stmt, Database, Expr, is_assertion, is_variable, is_float_of, stays_open, active, constants, variables, expr_of, is_essential, is_constant, has_float, IsLegal, starts_with_constant, is_used, is_mandatory, is_hypothesis, hypotheses, In, all-has, BeginsWithNoVariable}
+use Rattle.frame.proofs.Words.{list_any, ◌∙◌, ap, inl, inr, append_assoc, ◌≡◌, ℕ, suc, Bool, true, false, ◌||◌, List, [], ◌∷◌, ◌++◌, length, refl, not, ◌&&◌, or_left, or_cases, and_parts, not_both, list_any-append, list_any-from_Any, Any-from_list_any, Name, has_name, Stmt, Database, Expr, is_assertion, is_variable, is_float_of, stays_open, active, constants, variables, expr_of, is_essential, is_constant, has_float, IsLegal, starts_with_constant, is_used, is_mandatory, is_hypothesis, hypotheses, In, all-has, BeginsWithNoVariable, AreAllLegal}
 use Rattle.mm_read.specs.declared.stmt.Stmt.TheVariants.{Float, Ess, Axiom, Prove}
-use Rattle.frame.proofs.LegalLabels.{AllKept}
 use Rattle.frame.proofs.LegalAfter.{legal-keeps, kept-legal, constant-no_variable}
 use Rattle.frame.proofs.ActiveAfter.{active-stands, stands-active, open_both, implied}
 use Rattle.frame.proofs.CollectLemmas.{in-contains, contains-in}
@@ -24,7 +23,7 @@ constant-front S A t B x whole h =
     ap (λ w. is_constant w x) whole ∙ (list_any-append (λ s. has_name x (constants s)) A (t ∷ B) ∙ or_left (is_constant A x) _ h)
 
 -- the typecode of an active `$f` is not a variable, and its variable is one
-pub float-kinds : (S A : Database) (l c x : Name) (B : Database) → AllKept S → S ≡ A ++ Float l c x ∷ B → stays_open 0 B ≡ true → (is_variable S c ≡ false) × (is_variable S x ≡ true)
+pub float-kinds : (S A : Database) (l c x : Name) (B : Database) → AreAllLegal S → S ≡ A ++ Float l c x ∷ B → stays_open 0 B ≡ true → (is_variable S c ≡ false) × (is_variable S x ≡ true)
 float-kinds S A l c x B all whole stays =
     let legal = kept-legal S A (Float l c x) B all whole in
     let k = legal-keeps A (Float l c x) legal in
@@ -50,10 +49,10 @@ fixed S A s other legal = by s legal
     by (Prove l e p) k = first e (legal-keeps A (Prove l e p) k).g6
     by s k = tt
 
-pub first-fixed : (S A : Database) (t : Stmt) (B : Database) → AllKept S → S ≡ A ++ t ∷ B → BeginsWithNoVariable S (expr_of t)
+pub first-fixed : (S A : Database) (t : Stmt) (B : Database) → AreAllLegal S → S ≡ A ++ t ∷ B → BeginsWithNoVariable S (expr_of t)
 first-fixed S A t B all whole = fixed S A t (λ x h. constant-no_variable S x all (constant-front S A t B x whole h)) (kept-legal S A t B all whole)
 
-pub own-fixed : (S : Database) (s : Stmt) → AllKept S → IsLegal S s → BeginsWithNoVariable S (expr_of s)
+pub own-fixed : (S : Database) (s : Stmt) → AreAllLegal S → IsLegal S s → BeginsWithNoVariable S (expr_of s)
 own-fixed S s all legal = fixed S S s (λ x h. constant-no_variable S x all h) legal
 
 typed-own : (S : Database) (s : Stmt) (x : Name) → IsLegal S s → is_assertion s ≡ true → has_name x (expr_of s) ≡ true → is_variable S x ≡ true → has_float S x ≡ true
@@ -67,7 +66,7 @@ is_ess (Ess l e) x h = (l, e, refl, h)
 is_ess s x h = cc
 
 -- a variable of a `$e` has a `$f` that is active before it
-pub typed-before : (S A : Database) (l : Name) (e : Expr) (B : Database) (x : Name) → AllKept S → S ≡ A ++ Ess l e ∷ B → has_name x e ≡ true → is_variable S x ≡ true → has_float A x ≡ true
+pub typed-before : (S A : Database) (l : Name) (e : Expr) (B : Database) (x : Name) → AreAllLegal S → S ≡ A ++ Ess l e ∷ B → has_name x e ≡ true → is_variable S x ≡ true → has_float A x ≡ true
 typed-before S A l e B x all whole h v =
     let legal = kept-legal S A (Ess l e) B all whole in
     let k = legal-keeps A (Ess l e) legal in
@@ -80,7 +79,7 @@ typed-before S A l e B x all whole h v =
     implied (is_variable A x) (has_float A x) (all-has (λ y. not (is_variable A y) || has_float A y) x e k.g9 h) var
 
 -- a used variable has an active `$f`
-pub used-typed : (S : Database) (s : Stmt) (x : Name) → AllKept S → IsLegal S s → is_assertion s ≡ true → is_used S s x ≡ true → is_variable S x ≡ true → has_float S x ≡ true
+pub used-typed : (S : Database) (s : Stmt) (x : Name) → AreAllLegal S → IsLegal S s → is_assertion s ≡ true → is_used S s x ≡ true → is_variable S x ≡ true → has_float S x ≡ true
 used-typed S s x all legal asserts used v = elim (used-cases S s x used) [
   | inl h ↦ typed-own S s x legal asserts h v
   | inr r ↦
@@ -101,7 +100,7 @@ pub record HasFloatAt (S : Database) (s : Stmt) (x : Name) : Type 0 where
   pub listed : In (suc (length front)) (hypotheses S s)
 
 -- a mandatory variable has a mandatory `$f`
-pub mandatory-float : (S : Database) (s : Stmt) (x : Name) → AllKept S → IsLegal S s → is_assertion s ≡ true → is_mandatory S s x ≡ true → HasFloatAt S s x
+pub mandatory-float : (S : Database) (s : Stmt) (x : Name) → AreAllLegal S → IsLegal S s → is_assertion s ≡ true → is_mandatory S s x ≡ true → HasFloatAt S s x
 mandatory-float S s x all legal asserts m =
     let p = and_parts (is_variable S x) (is_used S s x) m in
     let r = active-stands (is_float_of x) 1 S (used-typed S s x all legal asserts p.1 p.0) in

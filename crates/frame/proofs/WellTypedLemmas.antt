@@ -1,10 +1,9 @@
 -- Each variable of a legal assertion is that of exactly one mandatory `$f`. So the results that the
 -- assertion takes determine the result that it gives.
-use Rattle.frame.proofs.Words.{list_all, All, variables, take, take-take, take-append_seam, arith, All-filter, All-map, All-get_or, All-from_get_or, slice_get_within, get_or_from_slice_get, sym, ◌∙◌, ap, append-nil, subst, get_or, ◌≡◌, ℕ, suc, ◌-◌, Bool, true, false, cond, List, [], ◌∷◌, ◌++◌, length, map, filter, slice_get, Some, refl, bytes_eq-Decides, and_parts, and_from, or_left, or_right, Name, name_eq, has_name, Stmt, Expr, Database, stays_open, stmt_at, before, expr_of, is_variable, HasAssertion, is_used, is_mandatory, is_hypothesis, hypotheses, active_disjoint_lists, has_two_or_more, mandatory_groups, AreImagesOfVariables, premises, expr_at, HasFloat, IsWellTyped, HasSingleResults, take-get}
+use Rattle.frame.proofs.Words.{list_all, All, variables, take, take-take, take-append_seam, arith, All-filter, All-map, All-get_or, All-from_get_or, slice_get_within, get_or_from_slice_get, sym, ◌∙◌, ap, append-nil, subst, get_or, ◌≡◌, ℕ, suc, ◌-◌, Bool, true, false, cond, List, [], ◌∷◌, ◌++◌, length, map, filter, slice_get, Some, refl, bytes_eq-Decides, and_parts, and_from, or_left, or_right, Name, name_eq, has_name, Stmt, Expr, Database, stays_open, stmt_at, before, expr_of, is_variable, HasAssertion, is_used, is_mandatory, is_hypothesis, hypotheses, active_disjoint_lists, has_two_or_more, mandatory_groups, AreImagesOfVariables, premises, expr_at, HasFloat, IsWellTyped, HasSingleResults, take-get, AreAllLegal}
 use Rattle.frame.proofs.LegalAfter.{stands-at}
 use Rattle.mm_read.specs.declared.stmt.Stmt.TheVariants.{Float, Ess}
 use Rattle.frame.specs.Substitution.{Images, image, apply as applied}
-use Rattle.frame.proofs.LegalLabels.{AllKept}
 use Rattle.frame.proofs.ActivePositions.{active-members, ascends-active}
 use Rattle.frame.proofs.ActiveFloats.{one-place}
 use Rattle.frame.proofs.AscendingLists.{in-place, place-in, once-each}
@@ -15,14 +14,14 @@ use Rattle.frame.proofs.PlacedHypotheses.{used-in}
 
 -- ---- one assertion
 
-module _ (S : Database) (a : ℕ) (s : Stmt) (legal : AllKept S) (is : HasAssertion S a s) where
+module _ (S : Database) (a : ℕ) (s : Stmt) (legal : AreAllLegal S) (is : HasAssertion S a s) where
   abbrev T : Database
   T = before S a
 
   abbrev hs : List ℕ
   hs = hypotheses (before S a) s
 
-  front-legal : AllKept T
+  front-legal : AreAllLegal T
   front-legal = kept-front S (a - 1) legal
 
   -- a statement before the assertion is at the same position in the whole database

@@ -24,25 +24,25 @@ pub use Rattle.frame.specs.Below.{AllBelow, AreBelow}
 pub use Rattle.frame.specs.Substitution.{CodeImages, Images, image, images_of_names}
 pub use Rattle.frame.specs.WellTyped.{HasFloat, IsWellTyped, BeginsWithNoVariable}
 pub use Rattle.frame.specs.Citations.{Carries, AreImagesOfVariables, expr_at, is_hypothesis_kind, premises}
-pub use Rattle.frame.specs.Disjoint.{are_disjoint, are_groups_disjoint, are_lists_disjoint, is_group_disjoint, is_list_disjoint, is_pair_disjoint, is_symbol_disjoint, is_variable_disjoint}
+pub use Rattle.frame.specs.Disjoint.{are_disjoint, are_groups_disjoint, are_lists_disjoint, is_group_disjoint, is_list_disjoint, is_pair_disjoint, is_symbol_disjoint}
 pub use Rattle.frame.specs.FrameOf.{HasAssertion, frame_of, active_disjoint_lists, hypotheses, is_hypothesis, is_mandatory, is_pair, is_used, mandatory_groups, has_two_or_more}
 pub use Rattle.frame.specs.LastActive.{actives, actives_from, is_disj, is_var, last_active_of, last_active_of_kind, last_position}
 pub use Rattle.frame.specs.Laws.{GroupsHaveMandatoryPairs, PairListsDecideAsGroups}
 pub use Rattle.frame.specs.ListsOfPairs.{AreListsOfPairs, have_both, is_numbered_pair}
 pub use Rattle.frame.specs.MandatoryPairs.{AreMandatoryPairs, AreReordered, HasEachOnce, IsEachOnce, IsPairList, IsReordered, float_variables, has_number, has_two_or_more_items, pair_lists, pairs_by, with_floats, with_number}
 pub use Rattle.frame.specs.Parts.{FrameParts, Numbered, VariablePairs}
-pub use Rattle.frame.specs.Stored.AssertionParts.{IsKeptAs, are_together, disjoint_symbols, floats_in, groups_in, has_parts, is_float_in, is_typed, is_typed_by, kept_with, entry_hypothesis, option_symbols, recorded_in, hypothesis_at, hypothesis_by, stored_pairs, symbols_at, typecode_at, with_group, with_list}
-pub use Rattle.frame.specs.Stored.Counts.{AreNumbered, AreZero, AreZeroAfter, HasMoreNames, HasRoom, HasTwoSymbolsIfFloat, HasMoreAtEnd, IsLabelBelow, IsPlain, KeepsCounts, kind_of, next_last_active}
+pub use Rattle.frame.specs.Stored.AssertionParts.{are_together, disjoint_symbols, floats_in, groups_in, is_float_in, is_typed, is_typed_by, entry_hypothesis, option_symbols, recorded_in, hypothesis_at, hypothesis_by, stored_pairs, symbols_at, typecode_at, with_group, with_list}
+pub use Rattle.frame.specs.Stored.Counts.{AreNumbered, HasMoreNames, HasTwoSymbolsIfFloat, HasMoreAtEnd, IsLabelBelow, IsPlain, kind_of, next_last_active}
 pub use Rattle.frame.specs.Stored.Ends.{AreBlocks, AreEnds, AreBlockEnds, end_from, end_of, is_open_at, with_end}
-pub use Rattle.frame.specs.Stored.EntryMeanings.{AreAllLegal, AreGivenBy, AreRestored, IsBelowIfSome, is_float_with, is_float_kind, labels_in, last_float, last_from, last_where, names_in, option_float, option_position, positions_from, replaced_after, replaced_of, second_is, shapes_of, statements_of, stmt_by, stmt_of, typed_by, with_float}
-pub use Rattle.frame.specs.Stored.Hypotheses.{AreCollected, AreFloats, AreHypotheses, HasLookedUpFloats, ListsExactly, AreWithEssentials, HasMore, In, IsFilledFrom, IsFloatOf, IsFromEssentials, IsKeptWith, HoldsForSome, IsFloatOfSome, is_hypothesis_entry, kept_at, option_kept, AreDescribed}
+pub use Rattle.frame.specs.Stored.EntryMeanings.{AreAllLegal, AreFloatsOf, IsLastFloat, float_mention, floats_from, is_float_with, is_float_kind, labels_in, names_in, option_position, positions_from, second_is, shapes_of, statements_of, stmt_by, stmt_of}
+pub use Rattle.frame.specs.Stored.Hypotheses.{AreDescribed, AreHypotheses, ArePartsOf, HasMore, HoldsForSome, In, IsFilledFrom, IsFloatAfter, IsFloatOf, IsFloatOfSome, IsKeptAs, IsWithEssential, ListsExactly, is_hypothesis_entry}
 pub use Rattle.frame.specs.Stored.PairLists.{AddsBefore}
 pub use Rattle.frame.specs.Stored.Labels.{is_labelled_kind}
 pub use Rattle.frame.specs.Stored.Naming.{is_kind_of_symbol, naming_from, naming_of}
 pub use Rattle.frame.specs.Stored.OneFrame.{AreMandatory, among, is_needed, groups_among, is_in_essential, mandatory_positions}
 pub use Rattle.frame.specs.Stored.MentionLists.{AreGrown, ArePlaced, IsGrown, IsLastActive, IsListOf, IsMentionedAt, IsTableOf, IsUpTo, active_with, is_entry_of, passes, stands}
 pub use Rattle.frame.specs.Stored.Stacks.{AreOfKind, IsOfKind, KeepsUntil, has_code, positions_with, having_after, kind_test, last_by_kind, opening}
-pub use Rattle.frame.specs.Stored.Whole.{AreKept, ArePartsFor, AreStored, IsEntryHeader, IsKeptOf}
+pub use Rattle.frame.specs.Stored.Whole.{AreKept, ArePartsFor, AreStored, IsEntryAfter, IsEntryHeader, IsKeptOf}
 pub use Rattle.frame.specs.declared.storage.Storage.{Storage}
 pub use Rattle.mm_lex.specs.Alphabet.{Name, has_name, name_eq}
 pub use Rattle.mm_lex.specs.Words.{AreWords}
@@ -75,11 +75,11 @@ pub use Rattle.scope.specs.declared.numbering.NameKind.TheVariants.{Constant}
 pub use Rattle.scope.specs.declared.rule.Rule.TheVariants.{G1, G10, G2, G3, G4, G5, G6, G7, G8, G9}
 pub use Rattle.scope.specs.declared.frame_statements.FrameStatement.{FrameStatement}
 pub use Rattle.std.proofs.Common.{Bool, Bor, Err, IfNone, IfSome, IsTrue, List, None, Ok, OnErr, OnOk, Option, Result, Some, [], add-zero, ap, append-nil, append_assoc, arith, cond, drop, eqb, false, filter, get_or, get_or-take, inl, inr, is_some, le-leb, length, length-append, length-drop, length-set, length-take, length-take-le, lt-ltb, map, nat_cmp, nat_eq, nat_le, nat_lt, not, option_map, refl, replicate, reverse, rules, slice_get, slice_range, slice_set, subst, suc, sym, take, take-append-drop, take-take, take_all, true, true≢false, zero, ℕ, ⊎_elim, ◌&&◌, ◌++◌, ◌+◌, ◌-◌, ◌<◌, ◌==◌, ◌||◌, ◌∙◌, ◌∷◌, ◌≡◌, ◌≢◌, ◌≤◌, ◌⊎◌}
-pub use Rattle.std.proofs.Math.Bool.{and-false, and-or_distrib_left, and_comm, or-false, or-true, or_comm}
+pub use Rattle.std.proofs.Math.Bool.{and-false, and-true, and-or_distrib_left, and_comm, or-false, or-true, or_assoc, or_comm}
 pub use Rattle.std.proofs.Math.ListN.{get_or-append}
 pub use Rattle.std.proofs.Math.Logic.{⊎_map}
 pub use Rattle.std.proofs.Math.Seq.{get_or-append_seam, take-append-add, take-append_seam, take-length}
-pub use Rattle.std.proofs.lemmas.Bool.{and_from, and_parts, and_right, both_ways, both_ways as not_both, cases_eq, cases_lt, false_from_ne_true, false≢true, leb-true, ltb-true, not-false, or_cases, or_from, or_left, or_parts, or_right, true_from_ne_false}
+pub use Rattle.std.proofs.lemmas.Bool.{and_from, and_parts, and_right, both_ways, both_ways as not_both, cases_Bool, cases_eq, cases_lt, false_from_ne_true, false≢true, leb-true, ltb-true, not-false, or_cases, or_from, or_left, or_parts, or_right, true_from_ne_false}
 pub use Rattle.std.proofs.lemmas.Grind.{get_or-set_at}
 pub use Rattle.std.proofs.lemmas.List.{drop-append-le, drop-take, drop_all, drop_more, get_or-set_other, get_or_append_left, get_or_at, get_or_past, get_or_read, length-map, map-append, map_push, nil_from_length, reverse-append, reverse-reverse, take-append-le, take-map, take_at}
 pub use Rattle.std.proofs.lemmas.List.Elements.{All-filter, All-from_get_or, All-get_or, All-map, filter-append}

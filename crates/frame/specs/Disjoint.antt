@@ -30,14 +30,10 @@ are_lists_disjoint S σ lists = list_all (is_list_disjoint S σ) lists
 
 -- ---- by variables; no public clause cites these definitions
 
--- v is not a variable, or u and v are a pair
+-- u and v are not both variables, or they are a pair
 abbrev pub is_pair_disjoint : Database → Name → Name → Bool
-is_pair_disjoint S u v = not (is_variable S v) || is_pair S u v
-
--- u and every variable of f are a pair
-abbrev pub is_variable_disjoint : Database → Name → Expr → Bool
-is_variable_disjoint S u f = list_all (is_pair_disjoint S u) f
+is_pair_disjoint S u v = not (is_variable S u) || not (is_variable S v) || is_pair S u v
 
 -- u is not a variable, or u and every variable of f are a pair
 abbrev pub is_symbol_disjoint : Database → Expr → Name → Bool
-is_symbol_disjoint S f u = list_all (λ v. not (is_variable S u) || not (is_variable S v) || is_pair S u v) f
+is_symbol_disjoint S f u = list_all (is_pair_disjoint S u) f

@@ -1,10 +1,8 @@
 //! Makes the parts that are kept with a statement: its hypotheses, each as one number, and its
 //! mandatory pairs.
-ghost use Rattle.std.specs.Prelude.{◌≡◌, ℕ, List, ◌+◌, ◌-◌, ◌≤◌, ◌==◌, ◌||◌, [], true, length, map};
-ghost use Rattle.std.specs.Prelude.{take, IfOk, OnOk};
-ghost use Rattle.mm_read.specs.declared.stmt.Stmt.{Stmt as Statement};
-ghost use Rattle.names.specs.Codes.{decode, with_names};
-ghost use Rattle.scope.specs.Active.{expr_of, bare};
+ghost use Rattle.std.specs.Prelude.{◌≡◌, ◌+◌, ◌-◌, ◌≤◌, [], true, length, map, take, IfOk, OnOk};
+ghost use Rattle.names.specs.Codes.{with_names};
+ghost use Rattle.scope.specs.Active.{bare};
 ghost use Rattle.scope.specs.Stored.SymbolNumbers.{AreRecorded};
 ghost use Rattle.scope.specs.Symbols.{symbols_declared_by, symbols_in};
 ghost use Rattle.entries.specs.Hypotheses.{decoded_hypothesis};
@@ -12,23 +10,20 @@ ghost use Rattle.entries.specs.Stored.Spans.{cut, AreSpansIn};
 ghost use Rattle.frame.specs.Below.{AreBelow};
 ghost use Rattle.frame.specs.AssertionView.{typecode_of};
 ghost use Rattle.frame.specs.Stored.Whole.{AreStored, ArePartsFor};
-ghost use Rattle.frame.specs.Stored.Hypotheses.{AreHypotheses, IsFilledFrom};
-ghost use Rattle.frame.specs.Stored.Counts.{HasTwoSymbolsIfFloat, kind_of};
+ghost use Rattle.frame.specs.Stored.Hypotheses.{AreHypotheses, ArePartsOf};
+ghost use Rattle.frame.specs.Stored.Counts.{HasTwoSymbolsIfFloat};
 ghost use Rattle.frame.specs.Stored.AssertionParts.{hypothesis_at, hypothesis_by, typecode_at};
-ghost use Rattle.frame.specs.Stored.AssertionParts.{is_typed, is_typed_by, with_list, has_parts};
+ghost use Rattle.frame.specs.Stored.AssertionParts.{with_list};
 ghost use Rattle.frame.specs.MandatoryPairs.{AreReordered, pairs_by};
 ghost use Rattle.frame.specs.ListsOfPairs.{is_numbered_pair};
-ghost use Rattle.std.specs.List.{list_any};
 ghost use Rattle.frame.specs.Stored.EntryMeanings.{names_in, statements_of};
 ghost use Rattle.frame.specs.Stored.EntrySizes.{IsSizeOf};
-ghost use Rattle.frame.specs.FrameOf.{hypotheses};
-ghost use Rattle.frame.specs.Stored.OneFrame.{mandatory_positions};
 
 use crate::frame_buffers::FrameBuffers;
-use crate::mandatory::{add_essentials, find_floats};
+use crate::mandatory::find_hypotheses;
 use crate::pair_buffer::PairBuffer;
 use crate::pairs::Pairs;
-use crate::shape::{has_parts, is_essential, kind};
+use crate::shape::is_assertion;
 use crate::sizes::size_of_assertion;
 use crate::storage::Storage;
 use entries::buffer_part::between;
@@ -138,23 +133,23 @@ fn add_list(
 }
 
 /// Appends the other parts of an assertion at `at` to `buffers`, which has the positions of its
-/// mandatory hypotheses: each hypothesis as one number, its typecode, and the mandatory pairs.
-/// Returns `false` if hypotheses and pairs take more than `MAX_KEPT` numbers.
+/// mandatory hypotheses: each hypothesis as one number, its typecode, and the mandatory pairs. If
+/// hypotheses and pairs take more than `MAX_KEPT` numbers, it removes all parts.
 ///
 /// Errors: an allocation fails. Cost: the hypotheses, and the rows of the mandatory variables.
-fn fill_whole(storage: &Storage, at: usize, buffers: &mut FrameBuffers) -> Result<bool, AllocError>
+fn fill_whole(storage: &Storage, at: usize, buffers: &mut FrameBuffers) -> Result<(), AllocError>
     requires stored { AreStored storage.now }
     requires place { (1 ≤ at) × (at ≤ length (statements_of storage.now) + 1) }
     requires hypotheses { AreHypotheses storage.now.entries buffers.old.hypotheses }
     requires undescribed { (buffers.old.numbered_hypotheses ≡ []) × (buffers.old.typecodes ≡ [])
         × (buffers.old.groups ≡ []) }
-    ensures { IfOk result
-        (λ whole. whole ≡ true
-        → IsFilledFrom storage.now.entries
+    ensures { OnOk result
+        (ArePartsOf storage.now.entries
         (take (at - 1) (statements_of storage.now)) buffers.old.hypotheses buffers.new) }
 {
     if buffers.hypotheses.len() > MAX_KEPT {
-        return Ok(false);
+        buffers.clear();
+        return Ok(());
     }
     let room = MAX_KEPT - buffers.hypotheses.len();
     encode_hypotheses(
@@ -165,20 +160,24 @@ fn fill_whole(storage: &Storage, at: usize, buffers: &mut FrameBuffers) -> Resul
     )?;
     let hypotheses = Hypotheses::new(&buffers.numbered_hypotheses);
     buffers.pair_buffer.begin(&hypotheses)?;
-    buffers.whole = add_pairs(
+    let whole = add_pairs(
         &Pairs { storage, at },
         room,
         &mut buffers.pair_buffer,
         &mut buffers.grouped_variables,
         &mut buffers.groups,
     )?;
-    Ok(buffers.whole)
+    if whole {
+        buffers.whole = true;
+        return Ok(());
+    }
+    buffers.clear();
+    Ok(())
 }
 
-/// Finds the parts of an assertion or `$e` that is appended to the statements, by the numbers of
-/// its symbols: all mandatory hypotheses and pairs of an assertion if these are few; else, and for
-/// a `$e`, the `$f` of its own variables. Other statements have none. Returns the size of an
-/// assertion, 0 for another statement.
+/// Finds the parts of an assertion that is appended to the statements, by the numbers of its
+/// symbols: all mandatory hypotheses and pairs, or none if these are many. Other statements have
+/// none. Returns the size of an assertion, 0 for another statement.
 ///
 /// Errors: an allocation fails, or the size is 2^64 or more.
 pub fn fill_parts(
@@ -194,57 +193,17 @@ pub fn fill_parts(
     ensures size { IfOk result (IsSizeOf (statements_of storage.now) (bare stmt.now)) }
 {
     buffers.clear();
-    if !has_parts(kind(stmt)) {
+    if !is_assertion(stmt) {
         return Ok(0);
     }
     let Some(codes) = recorded.numbers() else {
         return Err(AllocError);
     };
-    find_floats(
-        storage,
-        &mut buffers.looked_up,
-        &mut buffers.hypotheses,
-        codes,
-    )?;
-    if is_essential(stmt) {
-        encode_hypotheses(
-            storage,
-            &buffers.hypotheses,
-            &mut buffers.numbered_hypotheses,
-            &mut buffers.typecodes,
-        )?;
-        return Ok(0);
-    }
     let at = storage.entries.len() + 1;
-    add_essentials(storage, at, &mut buffers.hypotheses)?;
+    find_hypotheses(storage, at, codes, &mut buffers.hypotheses)?;
     let size = size_of_assertion(storage, at, &buffers.hypotheses, codes)?;
-    if fill_whole(storage, at, buffers)? {
-        return Ok(size);
-    }
-    fill_own(storage, buffers, codes)?;
+    fill_whole(storage, at, buffers)?;
     Ok(size)
-}
-
-/// Finds only the `$f` of the variables of an assertion that is appended to the statements.
-fn fill_own(storage: &Storage, buffers: &mut FrameBuffers, codes: &[u32]) -> Result<(), AllocError>
-    requires stored { AreStored storage.now }
-    requires codes { AreBelow (length (names_in storage.now)) codes.now }
-    ensures { (s : Statement) → decode (names_in storage.now) codes.now ≡ expr_of s
-        → OnOk result (ArePartsFor storage.now s buffers.new) }
-{
-    buffers.clear();
-    find_floats(
-        storage,
-        &mut buffers.looked_up,
-        &mut buffers.hypotheses,
-        codes,
-    )?;
-    encode_hypotheses(
-        storage,
-        &buffers.hypotheses,
-        &mut buffers.numbered_hypotheses,
-        &mut buffers.typecodes,
-    )
 }
 
 /// The parts of an assertion are kept whole only if its mandatory hypotheses, and the numbers in

@@ -15,12 +15,10 @@ ghost use Rattle.frame.specs.Stored.EntryMeanings.{HasVariableNumbers, labels_in
 ghost use Rattle.frame.specs.Stored.EntryMeanings.{statements_of};
 
 use crate::assertion_parts::fill_parts;
-use crate::declare::{
-    declare, declare_next, last_active_after, record_end, record_replaced, remove_entries, typed,
-};
+use crate::declare::{declare_next, last_active_after, record_end, remove_entries};
 use crate::frame_buffers::FrameBuffers;
 use crate::frames::Frames;
-use crate::next_mentions::mention_next;
+use crate::next_mentions::{mention_float, mention_next};
 use crate::shape::kind;
 use crate::storage::Storage;
 use crate::symbol_numbers::find_numbers;
@@ -67,8 +65,7 @@ fn extend(
     let Some(codes) = recorded.numbers() else {
         return Err(AllocError);
     };
-    let typed = typed(kind, codes);
-    record_replaced(&storage.floats, typed, &mut storage.replaced)?;
+    mention_float(&mut storage.floats, &storage.entries, &header, codes)?;
     mention_next(
         &mut storage.disjoints,
         Kind::Disj,
@@ -87,7 +84,6 @@ fn extend(
     )?;
     storage.ends.push(0)?;
     storage.entries.push(header, &buffers.parts(codes))?;
-    declare(&mut storage.floats, typed, at);
     let block = storage.last_active.block;
     record_end(&mut storage.ends, kind, block, at);
     storage.last_active = last_active;
@@ -114,10 +110,9 @@ fn extend_whole(
     ensures same { OnErr result (statements_of storage.new ≡ statements_of storage.old) }
 {
     let names = storage.numbering.len();
-    let replaced = storage.replaced.len();
     let result = extend(alloc, storage, buffers, stmt, recorded);
     if result.is_err() {
-        roll_back(storage, names, replaced);
+        roll_back(storage, names);
     }
     result
 }
@@ -135,32 +130,28 @@ fn truncate_storage(storage: &mut Storage, len: usize)
         let last_active = first.before.last_active;
         remove_entries(storage, len);
         storage.last_active = last_active;
-        let replaced = storage.replaced.len();
-        roll_back(storage, names, replaced);
+        roll_back(storage, names);
     }
 }
 
-/// Truncates the numbering to the first `names` names, the list `replaced` to its first `replaced`
-/// items, and every other list to the names or the statements that are left. `entries` and
-/// `last_active` stay as they are.
-fn roll_back(storage: &mut Storage, names: usize, replaced: usize)
+/// Truncates the numbering to the first `names` names, and every other list to the names or the
+/// statements that are left. `entries` and `last_active` stay as they are.
+fn roll_back(storage: &mut Storage, names: usize)
     ensures names { storage.new.numbering ≡ take names storage.old.numbering }
-    ensures floats { storage.new.floats.items ≡ take (length (names_in storage.new)) storage.old.floats.items }
     ensures positions { storage.new.positions.items
         ≡ take (length (labels_in storage.new)) storage.old.positions.items }
-    ensures replaced { storage.new.replaced.items ≡ take replaced storage.old.replaced.items }
     ensures ends { storage.new.ends.items ≡ take (length storage.old.entries) storage.old.ends.items }
     ensures entries { storage.new.entries ≡ storage.old.entries }
+    ensures floats { AreKeptUntil (length storage.old.entries) storage.old.floats storage.new.floats }
     ensures disjoints { AreKeptUntil (length storage.old.entries) storage.old.disjoints storage.new.disjoints }
     ensures variables { AreKeptUntil (length storage.old.entries) storage.old.variables storage.new.variables }
     ensures last_active { storage.new.last_active ≡ storage.old.last_active }
 {
     storage.numbering.truncate(names);
-    storage.floats.truncate(storage.numbering.symbol_count());
     storage.positions.truncate(storage.numbering.label_count());
-    storage.replaced.truncate(replaced);
     storage.ends.truncate(storage.entries.len());
     let last = storage.entries.len() as u32;
+    storage.floats.truncate(last);
     storage.disjoints.truncate(last);
     storage.variables.truncate(last);
 }
@@ -171,21 +162,19 @@ fn roll_back(storage: &mut Storage, names: usize, replaced: usize)
 fn shrink_lists(alloc: Global, storage: &mut Storage)
     ensures numbering { storage.new.numbering ≡ storage.old.numbering }
     ensures positions { storage.new.positions.items ≡ storage.old.positions.items }
-    ensures floats { storage.new.floats.items ≡ storage.old.floats.items }
-    ensures replaced { storage.new.replaced.items ≡ storage.old.replaced.items }
     ensures ends { storage.new.ends.items ≡ storage.old.ends.items }
     ensures entries { storage.new.entries ≡ storage.old.entries }
+    ensures floats { AreSame storage.old.floats storage.new.floats }
     ensures disjoints { AreSame storage.old.disjoints storage.new.disjoints }
     ensures variables { AreSame storage.old.variables storage.new.variables }
     ensures last_active { storage.new.last_active ≡ storage.old.last_active }
 {
     storage.numbering.shrink(alloc);
     give_back(&mut storage.positions);
-    give_back(&mut storage.floats);
-    give_back(&mut storage.replaced);
     give_back(&mut storage.ends);
     storage.entries.shrink();
     let symbols = storage.numbering.symbol_count();
+    storage.floats.shrink(symbols);
     storage.disjoints.shrink(symbols);
     storage.variables.shrink(symbols);
 }
@@ -196,9 +185,9 @@ impl Frames {
     /// Errors: an allocation fails, or a number is too large: that of symbols or the position of a
     /// mandatory `$e` from 2^31 on, the size of an assertion from 2^64 on, any other from 2^32 on;
     /// everything is as before. One step is counted, whatever the outcome.
-    /// Cost: the statement's own size, and a sort of its `$f`; for an assertion also that of the
-    /// active `$e`, a sort, and for each mandatory variable the active `$d` that have it; for a
-    /// `$}` the `$d` and `$v` that it makes inactive.
+    /// Cost: the statement's own size; for an assertion also that of the active `$e`, a sort, and
+    /// for each mandatory variable the active `$d` that have it; for a `$}` the `$d` and `$v` that
+    /// it makes inactive.
     pub fn push(&mut self, scope: &Scope, stmt: &Stmt, steps: &mut Steps) -> Result<(), AllocError>
         requires same { scope.now.statements ≡ self.old.statements }
         requires legal { IsLegal scope.now.statements stmt.now }

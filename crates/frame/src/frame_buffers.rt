@@ -4,7 +4,6 @@ ghost use Rattle.entries.specs.Entries.{AreShapedParts, assertion_of, no_parts};
 
 use crate::pair_buffer::PairBuffer;
 use entries::{AssertionParts, BufferPart};
-use scope::Stack;
 use std::alloc::Global;
 use std::marker::Model;
 
@@ -17,9 +16,8 @@ use std::marker::Model;
 pub struct FrameBuffers {
     /// Whether the parts are whole, as `AssertionParts` says.
     pub(crate) whole: bool,
-    /// The symbols whose `$f` were looked up. A buffer only: contracts do not see it.
-    pub(crate) looked_up: Stack,
-    /// For the mandatory pairs of one variable after another. A buffer only, too.
+    /// For the mandatory pairs of one variable after another. A buffer only: contracts do not see
+    /// it.
     pub(crate) pair_buffer: PairBuffer,
     /// The positions of the hypotheses, in order.
     pub(crate) hypotheses: Vec<u32>,
@@ -57,7 +55,6 @@ impl FrameBuffers {
     pub fn new(alloc: Global) -> FrameBuffers {
         FrameBuffers {
             whole: false,
-            looked_up: Stack::new(alloc),
             pair_buffer: PairBuffer::new(alloc),
             hypotheses: Vec::new(alloc),
             numbered_hypotheses: Vec::new(alloc),

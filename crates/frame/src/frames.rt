@@ -1,6 +1,5 @@
 //! The statements of a database by position.
 ghost use Rattle.std.specs.Prelude.{◌≡◌, ◌≤◌, ◌<◌, [], true, IfOk, length, Some, option_map, OnOk};
-ghost use Rattle.std.specs.Prelude.{IfSome};
 ghost use Rattle.mm_read.specs.declared.stmt.Stmt.{Stmt as Statement};
 ghost use Rattle.names.specs.Codes.{name_at, decode};
 ghost use Rattle.scope.specs.Active.{before, stmt_at, label_of, expr_of};
@@ -14,7 +13,7 @@ use crate::assertion_parts::encode_hypotheses;
 use crate::at_position::is_active_at;
 use crate::disjoint_groups::{DisjointGroups, find_groups};
 use crate::frame_buffers::FrameBuffers;
-use crate::mandatory::add_essentials;
+use crate::mandatory::find_hypotheses;
 use crate::meaning::Meaning;
 use crate::pair_buffer::record_variables;
 use crate::pairs::Pairs;
@@ -66,10 +65,9 @@ impl Frames {
             storage: Storage {
                 numbering: Numbering::new(alloc),
                 positions: Vec::new(alloc),
-                floats: Vec::new(alloc),
-                replaced: Vec::new(alloc),
                 ends: Vec::new(alloc),
                 entries: Entries::new(alloc),
+                floats: Mentions::new(alloc),
                 disjoints: Mentions::new(alloc),
                 variables: Mentions::new(alloc),
                 last_active: LastActive {
@@ -212,21 +210,11 @@ impl Frames {
             (λ view. (s : Statement) → stmt_at self.now.statements a ≡ Some s
             → IsViewOf self.now.statements self.now.names a s view) }
     {
-        if let Some(view) = self.whole_view(a) {
+        if let Some(view) = self.storage.entries.whole_view(a - 1) {
             return Ok(view);
         }
         self.fill_buffers(a, buffers)?;
         Ok(self.buffered_view(a, buffers))
-    }
-
-    /// Returns the parts of the assertion at a position, or `None` if they are not kept whole.
-    #[inline(always)]
-    fn whole_view(&self, a: usize) -> Option<AssertionView<'_>>
-        requires { (s : Statement) × HasAssertion self.now.statements a s }
-        ensures { (s : Statement) → stmt_at self.now.statements a ≡ Some s
-            → IfSome result (IsViewOf self.now.statements self.now.names a s) }
-    {
-        self.storage.entries.whole_view(a - 1)
     }
 
     /// Fills the buffers with the mandatory hypotheses of the assertion at a position.
@@ -285,8 +273,8 @@ impl Frames {
     /// Appends the positions of the mandatory hypotheses of the assertion at a position, in order,
     /// to an empty list.
     ///
-    /// Errors: an allocation fails. Cost: their number, if all are kept with the assertion; else
-    /// the size of the active `$e`, and a sort.
+    /// Errors: an allocation fails. Cost: their number, if they are kept with the assertion; else
+    /// the symbols of the assertion and of the active `$e`, and a sort.
     pub fn mandatory(&self, a: usize, list: &mut Vec<u32>) -> Result<(), AllocError>
         requires assertion { (s : Statement) × HasAssertion self.now.statements a s }
         requires empty { list.old.items ≡ [] }
@@ -294,12 +282,11 @@ impl Frames {
             → OnOk result (list.new.items ≡ hypotheses (before self.now.statements a) s) }
         ensures legal { HasLegalProperties self.now.statements self.now.names }
     {
-        list.extend_from_slice(self.storage.entries.hypotheses(a - 1))?;
-        if self.storage.entries.is_whole(a - 1) {
-            Ok(())
-        } else {
-            add_essentials(&self.storage, a, list)
+        if !self.storage.entries.is_whole(a - 1) {
+            return find_hypotheses(&self.storage, a, self.expr(a), list);
         }
+        list.extend_from_slice(self.storage.entries.hypotheses(a - 1))?;
+        Ok(())
     }
 
     /// Returns the label of the statement at a position, or `None` if it has none.

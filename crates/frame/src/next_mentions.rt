@@ -1,10 +1,12 @@
-//! The mentions that the next statement appends to the tables of the `$d` and `$v`, which have the
-//! statements that mention each symbol.
+//! The mentions that the next statement appends to the tables of the `$d`, `$v` and `$f`, which
+//! have the statements that mention each symbol.
 ghost use Rattle.std.specs.Prelude.{◌≡◌, ℕ, ◌+◌, ◌≤◌, ◌==◌, ◌∷◌, ◌++◌, [], true, false, length};
 ghost use Rattle.std.specs.Prelude.{OnOk};
 ghost use Rattle.std.specs.List.{list_any};
 ghost use Rattle.entries.specs.Entries.{Assertion, entry_by};
 ghost use Rattle.entries.specs.Mentions.{mentions_of};
+ghost use Rattle.frame.specs.Stored.Counts.{HasTwoSymbolsIfFloat};
+ghost use Rattle.frame.specs.Stored.EntryMeanings.{AreFloatsOf};
 ghost use Rattle.frame.specs.Stored.MentionLists.{AreGrown, ArePlaced, IsLastActive, IsMentionedAt};
 ghost use Rattle.frame.specs.Stored.MentionLists.{IsTableOf};
 ghost use Rattle.frame.specs.Stored.Stacks.{KeepsUntil, last_by_kind, opening};
@@ -13,6 +15,33 @@ use crate::first_active::{first_active, is_entry_of};
 use entries::buffer_part::to_u32;
 use entries::{Entries, EntryHeader, Kind, LastActive, Mention, Mentions};
 use std::alloc::AllocError;
+
+/// Appends the mention of its variable by the next statement, if it is a `$f`.
+///
+/// Errors: an allocation fails; the mentions are then the same.
+pub fn mention_float(
+    floats: &mut Mentions,
+    entries: &Entries,
+    header: &EntryHeader,
+    codes: &[u32],
+) -> Result<(), AllocError>
+    requires symbols { HasTwoSymbolsIfFloat header.now.kind codes.now }
+    requires floats { AreFloatsOf entries.now floats.old }
+    ensures floats { OnOk result
+        ((a : Assertion) → AreFloatsOf (entries.now ++ entry_by header.now codes.now a ∷ []) floats.new) }
+    ensures kept { KeepsUntil (length entries.now) floats.old floats.new }
+{
+    match header.kind {
+        Kind::Float => {
+            let mention = Mention {
+                position: entries.len() as u32 + 1,
+                beneath: 0,
+            };
+            floats.push(codes[1], mention)
+        }
+        _ => Ok(()),
+    }
+}
 
 /// Appends the mentions by the next statement to a table. If it is of the kind of the table, it
 /// mentions its symbols. If it is a `$}`, it mentions each symbol of the statements of the table
@@ -39,8 +68,11 @@ pub fn mention_next(
     if is_entry_of(table, header.kind) {
         return mention_each(mentions, table, entries, ends, codes, entries.len() + 1);
     }
+    let last_active = header.before.last_active;
     match header.kind {
-        Kind::Close => mention_closed(mentions, table, entries, ends, header.before.last_active),
+        Kind::Close if last_of_kind(last_active, table) > last_active.block => {
+            mention_closed(mentions, table, entries, ends, last_active)
+        }
         _ => Ok(()),
     }
 }

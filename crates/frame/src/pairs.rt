@@ -10,7 +10,7 @@ ghost use Rattle.frame.specs.LastActive.{actives, is_disj};
 ghost use Rattle.frame.specs.ListsOfPairs.{AreListsOfPairs, is_numbered_pair};
 ghost use Rattle.frame.specs.NumberedWork.{numbered_row};
 ghost use Rattle.frame.specs.Stored.EntryMeanings.{statements_of};
-ghost use Rattle.frame.specs.Stored.Stacks.{AreOfKind, IsOfKind, has_code, positions_with};
+ghost use Rattle.frame.specs.Stored.Stacks.{positions_with};
 ghost use Rattle.frame.specs.Stored.Whole.{AreStored};
 
 use crate::disjoints_with::DisjointsWith;
@@ -41,7 +41,10 @@ impl<'a> Model for Pairs<'a> {
 
     ghost Value = { Numbered };
 
-    ghost view = { λ a. record { statements = before (statements_of a.storage.now) a.at; names = names_in a.storage.now } };
+    ghost view = { λ a. record {
+      statements = before (statements_of a.storage.now) a.at;
+      names = names_in a.storage.now;
+    } };
 
     ghost invariant = { λ a. AreStored a.storage.now
         × AreDistinct (names_in a.storage.now)
@@ -52,7 +55,7 @@ impl<'a> Model for Pairs<'a> {
 impl<'a> Pairs<'a> {
     /// Returns whether x and y are different and both occur in one active `$d`.
     ///
-    /// Cost: the number of active `$d` that have x, times a binary search.
+    /// Cost: the row of x, which is the sum of the lengths of the active `$d` that have it.
     pub fn has(&self, x: u32, y: u32) -> bool
         requires { (x < length self.now.names) × (y < length self.now.names) }
         ensures { result ≡ is_numbered_pair self.now x y }
@@ -60,7 +63,13 @@ impl<'a> Pairs<'a> {
         if x == y {
             return false;
         }
-        any_has(self.storage, active_disjoints(self.storage, x, self.at), y)
+        let mut disjoints = self.disjoints_with(x);
+        while let Some(symbols) = disjoints.next() {
+            if contains(symbols, y) {
+                return true;
+            }
+        }
+        false
     }
 
     /// Returns the active `$d` that have x, from the last one back.
@@ -135,32 +144,9 @@ fn active_disjoints(storage: &Storage, code: u32, at: usize) -> MentionStack<'_>
     )
 }
 
-/// Returns whether one of the `$d` at these positions has the symbol.
-///
-/// Cost: the number of the `$d`, times a binary search.
-fn any_has(storage: &Storage, mut stack: MentionStack<'_>, code: u32) -> bool
-    requires stored { AreStored storage.now }
-    requires disjoints { AreOfKind is_disj (statements_of storage.now) (positions_of stack) }
-    ensures { result ≡ list_any (has_code storage.now.entries code) (positions_of stack.entry) }
+/// Returns whether a symbol is in the list.
+fn contains(codes: &[u32], code: u32) -> bool
+    ensures { result ≡ list_any (λ c. code == c) codes.now }
 {
-    while let Some(at) = stack.pop() {
-        if has_symbol(storage, at, code) {
-            return true;
-        }
-    }
-    false
-}
-
-/// Returns whether the `$d` at a position has the symbol: then it is the first one that is active
-/// right after it.
-fn has_symbol(storage: &Storage, at: u32, code: u32) -> bool
-    requires stored { AreStored storage.now }
-    requires disjoint { IsOfKind is_disj (statements_of storage.now) at }
-    ensures { result ≡ has_code storage.now.entries code at }
-{
-    let mut active = active_disjoints(storage, code, at as usize + 1);
-    match active.pop() {
-        Some(first) => first == at,
-        None => false,
-    }
+    codes.iter().any(|c| code == *c)
 }

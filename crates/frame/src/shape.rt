@@ -1,7 +1,6 @@
 //! Properties of the shape of a statement.
 ghost use Rattle.std.specs.Prelude.{◌≡◌};
-ghost use Rattle.scope.specs.Active.{bare, is_assertion, is_essential};
-ghost use Rattle.frame.specs.Stored.AssertionParts.{has_parts};
+ghost use Rattle.scope.specs.Active.{bare, is_assertion};
 ghost use Rattle.frame.specs.Stored.Counts.{kind_of};
 ghost use Rattle.frame.specs.Stored.Labels.{is_labelled_kind};
 
@@ -30,20 +29,6 @@ pub fn is_assertion(stmt: &Stmt) -> bool
     ensures { result ≡ is_assertion stmt.now }
 {
     matches!(stmt, Stmt::Axiom { .. } | Stmt::Prove { .. })
-}
-
-/// Returns whether a statement is an essential hypothesis.
-pub fn is_essential(stmt: &Stmt) -> bool
-    ensures { result ≡ is_essential stmt.now }
-{
-    matches!(stmt, Stmt::Ess { .. })
-}
-
-/// Returns whether statements of a kind have the parts of an assertion.
-pub fn has_parts(kind: Kind) -> bool
-    ensures { result ≡ has_parts kind }
-{
-    matches!(kind, Kind::Ess | Kind::Axiom | Kind::Prove)
 }
 
 /// Returns whether statements of a kind have a label, and so an expression.

@@ -6,4 +6,4 @@ mod keep_folder;
 mod stored_lines;
 
 pub use keep_folder::{FolderRefusal, FolderTerms, KeepFolder, KeptNode};
-pub use stored_lines::push_stored;
+pub use stored_lines::{push_damaged_line, push_damages, push_kept_line, push_stored};

@@ -2,6 +2,8 @@
 //! streams to the crate `program`, which does the rest.
 #![tactic(auto)]
 
+use entry_rows::EntryColumns;
+use node_files::SystemFolders;
 use program::run;
 use questions::{Fault, print};
 use sites::SystemFolder;
@@ -24,6 +26,7 @@ fn main(rt: HostRuntime) -> ExitCode {
                 &mut output,
                 &mut stderr,
                 &mut SystemFolder::new(&rt),
+                &mut SystemFolders::<EntryColumns>::new(&rt),
             ),
             Err(AllocError) => Fault::from(AllocError).print(&mut output),
         },

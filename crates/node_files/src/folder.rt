@@ -1,5 +1,8 @@
 //! The folder of a store.
-ghost use Rattle.std.specs.Prelude.{◌≡◌, length, vec_len, IfOk};
+ghost use Rattle.std.specs.Prelude.{◌≡◌, length, vec_len, All, IfOk, IsSomeAnd, is_some};
+ghost use Rattle.sqlite_store.specs.FileStore.{recovers, view};
+ghost use Rattle.file_keep.specs.Keeps.{IsDurable};
+ghost use Rattle.node_files.specs.Opened.{IsOpened};
 
 use crate::node_file::{FileNodeKeep, NodeFile};
 use crate::seen::{Seen, SeenFault};
@@ -14,6 +17,9 @@ use std::marker::PhantomData;
 use std::rt::HostRuntime;
 use std::{fs, io};
 use synod::{MAX_NODES, Value};
+
+/// The kinds of a node's files, as their names end.
+const NODE_FILES: [&str; 3] = ["db", "db-wal", "seen"];
 
 /// An open folder. No other process can open it before it is dropped.
 #[derive(Drop)]
@@ -59,7 +65,9 @@ impl Folder {
         &self,
         terms: &FolderTerms,
     ) -> Result<Vec<KeptNode<FileNodeKeep<V, C>>>, FolderRefusal>
-        ensures { IfOk result (λ nodes. vec_len nodes ≡ length terms.now.weights) }
+        ensures count { IfOk result (λ nodes. vec_len nodes ≡ length terms.now.weights) }
+        ensures each { IfOk result (λ nodes. All
+            (λ node. IsOpened view recovers C.columns (is_some node.damage) node.keep) nodes.items) }
     {
         let mut nodes = Vec::new(self.rt.alloc());
         for k in 0..terms.weights.count() {
@@ -88,7 +96,10 @@ impl Folder {
     fn node<V: Value, C: ValueColumns<V>>(
         &self,
         k: u8,
-    ) -> Result<KeptNode<FileNodeKeep<V, C>>, AllocError> {
+    ) -> Result<KeptNode<FileNodeKeep<V, C>>, AllocError>
+        ensures { IfOk result
+            (λ node. IsOpened view recovers C.columns (is_some node.damage) node.keep) }
+    {
         let damage = match self.open_node::<V, C>(k)? {
             Ok(keep) => return Ok(KeptNode { keep, damage: None }),
             Err(damage) => damage,
@@ -103,7 +114,10 @@ impl Folder {
     fn open_node<V: Value, C: ValueColumns<V>>(
         &self,
         k: u8,
-    ) -> Result<Result<FileNodeKeep<V, C>, String>, AllocError> {
+    ) -> Result<Result<FileNodeKeep<V, C>, String>, AllocError>
+        ensures { IfOk result (λ opened. IfOk opened
+            (λ node. IsSomeAnd node.open_keep (λ keep. IsDurable view recovers C.columns keep.keep))) }
+    {
         let alloc = self.rt.alloc();
         let seen = match self.seen(k)? {
             Ok(seen) => seen,
@@ -169,7 +183,7 @@ impl Folder {
     /// Errors: an allocation fails.
     fn bytes(&self, k: u8) -> Result<u64, AllocError> {
         let mut bytes = 0u64;
-        for kind in ["db", "db-wal", "seen"] {
+        for kind in NODE_FILES {
             let path = self.path_of(k, kind)?;
             if let Ok(found) = fs::metadata(&self.rt, path.as_str()) {
                 bytes = bytes.saturating_add(found.len());
@@ -238,33 +252,51 @@ fn read_text(rt: &HostRuntime, path: &str, name: &str) -> Result<Option<String>,
     }
 }
 
-/// Writes the draft of the file `library`, unless a start that was cut short has left it, and
-/// returns its number.
+/// Writes the draft of the file `library`, and returns its number. If a start that was cut short
+/// left a draft, no node has voted yet, and the files that it made are removed.
 ///
-/// Errors: there is no such draft, but files of nodes; a file cannot be read or written.
+/// Errors: there is no draft, but files of nodes; a file cannot be read, removed or written.
 fn begin_library(rt: &HostRuntime, path: &str, terms: &FolderTerms) -> Result<u64, FolderRefusal> {
     let alloc = rt.alloc();
-    if let Some(text) = read_text(rt, path, "library.new")? {
-        if let Ok(id) = compare(alloc, path, terms, text.as_str()) {
-            return Ok(id);
-        }
+    if has_draft(rt, path)? {
+        remove_node_files(rt, path)?;
+    } else {
+        refuse_node_files(rt, path)?;
     }
-    refuse_node_files(rt, path)?;
     let id = draw_id(rt, path)?;
     let draft = format!(in alloc; "{path}/library.new")?;
-    let written = write_synced(
-        rt,
-        draft.as_str(),
-        library_text(alloc, terms, id)?.as_bytes(),
-    );
+    let text = library_text(alloc, terms, id)?;
+    let written = write_synced(rt, draft.as_str(), text.as_bytes());
     or_line(alloc, draft.as_str(), written)?;
     Ok(id)
+}
+
+/// Returns whether there is a whole draft of the file `library`.
+fn has_draft(rt: &HostRuntime, path: &str) -> Result<bool, FolderRefusal> {
+    match read_text(rt, path, "library.new")? {
+        Some(text) => Ok(without_checksum(rt.alloc(), text.as_str())?.is_some()),
+        None => Ok(false),
+    }
+}
+
+/// Removes the files of nodes.
+fn remove_node_files(rt: &HostRuntime, path: &str) -> Result<(), FolderRefusal> {
+    for k in 0..MAX_NODES {
+        for kind in NODE_FILES {
+            let file = format!(in rt.alloc(); "{path}/node-{k}.{kind}")?;
+            match fs::remove_file(rt, file.as_str()) {
+                Err(error) if error.kind() == io::ErrorKind::NotFound => {}
+                removed => or_line(rt.alloc(), file.as_str(), removed)?,
+            }
+        }
+    }
+    Ok(())
 }
 
 /// Refuses a folder that has files of nodes.
 fn refuse_node_files(rt: &HostRuntime, path: &str) -> Result<(), FolderRefusal> {
     for k in 0..MAX_NODES {
-        for kind in ["db", "db-wal", "seen"] {
+        for kind in NODE_FILES {
             let file = format!(in rt.alloc(); "{path}/node-{k}.{kind}")?;
             if fs::metadata(rt, file.as_str()).is_ok() {
                 return Err(FolderRefusal::Line(format!(in rt.alloc();

@@ -5,7 +5,7 @@ pub use Rattle.cluster.specs.Cells.{new_cells}
 pub use Rattle.net.specs.KeptPart.{node_of}
 pub use Rattle.net.specs.World.{World}
 pub use Rattle.net.specs.declared.event.Event.{Event}
-pub use Rattle.net.specs.declared.event.Event.TheVariants.{Deliver, Restart}
+pub use Rattle.net.specs.declared.event.Event.TheVariants.{Restart}
 pub use Rattle.net.specs.declared.fault.StepFault.{StepFault}
 pub use Rattle.nodes.specs.Desk.{IsResultOf, DeliversAll, IsPlayFault, IsPlayed, IsRestartFault}
 pub use Rattle.nodes.specs.Report.{IsReport, is_event_of_node, event_counts, event_count_of, with_one_more_at}

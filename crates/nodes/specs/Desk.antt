@@ -5,8 +5,8 @@
 -- `Plays carried_size old new e answer` (crate `switch`): at the switch `old`, the event e has this
 -- answer, the count of packets posted so far or a fault, and leaves the switch `new`.
 -- `carried_size` is the size of an entry in bytes.
-use Rattle.std.specs.Prelude.{◌≡◌, ◌⊎◌, ℕ, List, [], ◌∷◌, Option, Result, Ok, Err}
-use Rattle.nodes.specs.Words.{Listed, Verdict, status, listed, Carried, Ahead, Event, Deliver, Restart, StepFault, Apart, Stopped, carried_size, RunBefore, history_of, SwitchView, Plays, Belongs, IsAhead, Cell, IsCell, work_limit_of}
+use Rattle.std.specs.Prelude.{◌≡◌, ◌⊎◌, ℕ, Bool, false, List, Option, Result, Ok, Err}
+use Rattle.nodes.specs.Words.{Listed, Verdict, status, listed, Carried, Ahead, Event, Deliver, Restart, StepFault, Apart, Stopped, carried_size, RunBefore, history_of, SwitchView, DeliversTogether, Plays, Belongs, IsAhead, Cell, IsCell, work_limit_of}
 
 -- the assertions of the library of some cell of node k
 pub record IsListed (k : ℕ) (list : List Listed) : Type 0 where
@@ -45,11 +45,18 @@ abbrev pub IsResultOf : {A : Type 0} → SwitchView Carried → SwitchView Carri
 IsResultOf old new e (Ok answer) = (count : ℕ) × Plays carried_size old new e (Ok count)
 IsResultOf old new e (Err fault) = Plays carried_size old new e (Err fault)
 
--- packets are delivered one after another, whatever the result of each delivery
-abbrev pub DeliversAll : SwitchView Carried → SwitchView Carried → List ℕ → Type 0
-DeliversAll old new [] = new ≡ old
-DeliversAll old new (number ∷ numbers) = (between : SwitchView Carried) × (answer : Result ℕ StepFault)
-    × Plays carried_size old between (Deliver number) answer × DeliversAll between new numbers
+-- packets are delivered at node k one after another, and their changes are committed together; if
+-- that fails, none of the packets that they post gets a hint
+pub record DeliversAll (k : ℕ) (old new : SwitchView Carried) (packets : List ℕ) (hint_count : ℕ) : Type 0 where
+  pub posted : ℕ
+  pub is_committed : Bool
+  pub delivers : DeliversTogether carried_size k old new packets posted is_committed
+  pub silent : is_committed ≡ false → hint_count ≡ 0
+
+-- a packet is delivered, whatever the result, and perhaps then another one
+abbrev pub DeliversOneOrTwo : SwitchView Carried → SwitchView Carried → ℕ → Type 0
+DeliversOneOrTwo old new number = (between : SwitchView Carried) × (answer : Result ℕ StepFault) × Plays carried_size old between (Deliver number) answer
+    × ((new ≡ between) ⊎ ((next : ℕ) × (result : Result ℕ StepFault) × Plays carried_size between new (Deliver next) result))
 
 -- the event has this result at some switch
 pub record IsPlayed (e : Event Carried) (answer : Result ℕ StepFault) : Type 0 where

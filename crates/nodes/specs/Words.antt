@@ -13,6 +13,6 @@ pub use Rattle.net.specs.declared.event.Event.{Event}
 pub use Rattle.net.specs.declared.event.Event.TheVariants.{Deliver, Restart}
 pub use Rattle.net.specs.declared.fault.StepFault.{StepFault}
 pub use Rattle.net.specs.declared.fault.StepFault.TheVariants.{Apart, Stopped}
-pub use Rattle.switch.specs.Switch.{Plays, SwitchView, history_of, world_of}
+pub use Rattle.switch.specs.Switch.{DeliversTogether, Plays, SwitchView, history_of, world_of}
 pub use Rattle.world.specs.Carried.{carried_size}
 pub use Rattle.world.specs.declared.carried.Carried.{Carried}

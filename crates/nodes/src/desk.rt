@@ -71,11 +71,13 @@ impl<G: Gate, K: Keep<Carried>> Desk<G, K> {
         Ok(())
     }
 
-    /// Restarts node `k` from the record in its keep.
+    /// Restarts node `k` from the record in its keep. Before this returns, the node learns the
+    /// entries that another node has learned: of those that are up the one with the longest log.
     ///
     /// Errors: `Stopped` once the cluster is stopped; if there is no such node, `EventsSpent` if no
     /// event is left and else `NoNode`; `Apart` if the cell is not that of its node; else those of
-    /// `cluster::restart_on`. Cost: that of `cluster::restart_on`.
+    /// `cluster::restart_on`. Cost: that of `cluster::restart_on`, and two events for each entry
+    /// learned.
     pub fn restart<R: Wait>(&self, rt: &R, k: u8) -> Result<(), StepFault>
         ensures restarted { OnOk result ((count : ℕ) × IsPlayed (Restart k) (Ok count)) }
         ensures refused { k < self.now → IfErr result (IsRestartFault k) }
@@ -98,6 +100,7 @@ impl<G: Gate, K: Keep<Carried>> Desk<G, K> {
             let mut shared_switch = self.shared.switch.lock(rt);
             shared_switch.restart(self.shared.alloc, &mut shared_cell.cell, other_count)?
         };
+        self.shared.learn(rt, &hints);
         self.shared.send(rt, &hints);
         Ok(())
     }

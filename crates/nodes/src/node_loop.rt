@@ -10,12 +10,9 @@ use synod::Keep;
 use verify_pool::Gate;
 use world::Carried;
 
-/// The largest number of hints that a node takes at once. The node's and the switch's lock are
-/// taken once for the deliveries of all of them.
-const MAX_HINTS: usize = 32;
-
-/// Runs node `k` until its channel is closed: takes the waiting hints, up to `MAX_HINTS` at once,
-/// and delivers their packets as the weather says. The channel carries the packets' numbers alone.
+/// Runs node `k` until its channel is closed: takes the hints that wait, and delivers their packets
+/// as the weather says. The node's and the switch's lock are taken once for all of them, and their
+/// changes are one commit. The channel carries the packets' numbers alone.
 pub(crate) fn run_node<
     G: Gate + Sync + Drop,
     K: Keep<Carried> + Drop,
@@ -28,7 +25,8 @@ pub(crate) fn run_node<
             break;
         };
         packets.clear();
-        for number in iter::once(first).chain(hints.try_iter(&rt)).take(MAX_HINTS) {
+        let others = hints.try_iter(&rt).take(hints.len());
+        for number in iter::once(first).chain(others) {
             // A hint for which an allocation fails is a lost packet.
             match weather.turn(number) {
                 Fate::Pass => {

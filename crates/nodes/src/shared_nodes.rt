@@ -64,9 +64,9 @@ impl<G: Gate, K: Keep<Carried>> SharedNodes<G, K> {
         }
     }
 
-    /// Delivers packets, given by number, at node `k` one after another, takes over the new entries
-    /// of its log, sends the hints of the packets posted, and applies the entries, unless the next
-    /// one is postponed (`SharedCell`). If an allocation fails, the entry is taken over at a later
+    /// Delivers packets, given by number, at node `k` one after another, with one commit of its keep,
+    /// takes over the new entries of its log, sends the hints of the packets posted, and applies the
+    /// entries, unless the next one is postponed (`SharedCell`). If an allocation fails, the entry is taken over at a later
     /// hint, or applied at a later hint at which it is due.
     pub fn handle<R: Threads + Wait + Sync>(&self, rt: &R, k: u8, packets: &[u64])
     where
@@ -78,13 +78,30 @@ impl<G: Gate, K: Keep<Carried>> SharedNodes<G, K> {
         let mut shared_cell = lock.lock(rt);
         let hints = {
             let mut shared_switch = self.switch.lock(rt);
-            let hints = shared_switch.deliver_all(self.alloc, packets);
+            let hints = shared_switch.deliver_all(self.alloc, k, packets);
             take_all(&mut shared_cell.cell, &shared_switch.switch);
             hints
         };
         self.send(rt, &hints);
         if shared_cell.is_due_after(packets.len()) {
             self.apply_all(rt, &mut shared_cell, k);
+        }
+    }
+
+    /// Lets a node that was restarted learn, entry by entry, what another node has learned: of the
+    /// nodes that it asks by these hints the one with the longest log. The switch's lock is taken
+    /// anew for each entry.
+    pub fn learn<R: Wait>(&self, rt: &R, asks: &[Hint]) {
+        let mut next = {
+            let shared_switch = self.switch.lock(rt);
+            shared_switch.best_ask(asks)
+        };
+        for _entry in 0..SLOTS {
+            let Some(ask) = next else {
+                break;
+            };
+            let mut shared_switch = self.switch.lock(rt);
+            next = shared_switch.learn(ask);
         }
     }
 

@@ -1,8 +1,12 @@
 //! The switch under its lock, and the hints by which the receivers of its packets learn of them.
-ghost use Rattle.std.specs.Prelude.{◌≡◌, ◌⊎◌};
-ghost use Rattle.net.specs.declared.event.Event.TheVariants.{Restart};
+ghost use Rattle.std.specs.Prelude.{◌≡◌, ◌⊎◌, ℕ, Result, vec_len};
+ghost use Rattle.net.specs.declared.event.Event.TheVariants.{Deliver, Restart};
+ghost use Rattle.net.specs.declared.fault.StepFault.{StepFault};
 ghost use Rattle.net.specs.declared.fault.StepFault.TheVariants.{EventsSpent, NoNode};
-ghost use Rattle.nodes.specs.Desk.{IsResultOf, DeliversAll};
+ghost use Rattle.nodes.specs.Desk.{DeliversAll, DeliversOneOrTwo, IsResultOf};
+ghost use Rattle.switch.specs.LogPrefixes.{KeepsPrefixes};
+ghost use Rattle.switch.specs.Switch.{Plays};
+ghost use Rattle.world.specs.Carried.{carried_size};
 
 use cluster::{NodeCell, Switch, deliver_on, restart_on};
 use net::{Event, StepFault};
@@ -61,16 +65,73 @@ impl<K: Keep<Carried>> SharedSwitch<K> {
         Ok(self.hints(alloc, count.saturating_sub(other_count), count))
     }
 
-    /// Delivers packets, given by number, one after another. Returns the hints of the packets that
-    /// these deliveries post. A refused delivery posts nothing.
-    pub fn deliver_all(&mut self, alloc: Global, packets: &[u64]) -> Vec<Hint>
-        ensures { DeliversAll self.old.switch self.new.switch packets.now }
+    /// Delivers packets, given by number, at node `k` one after another, with one commit for their
+    /// changes. Returns the hints of the packets that these deliveries post; none if the commit
+    /// fails, and then these packets are lost. A refused delivery posts nothing.
+    pub fn deliver_all(&mut self, alloc: Global, k: u8, packets: &[u64]) -> Vec<Hint>
+        ensures delivers { DeliversAll k self.old.switch self.new.switch packets.now (vec_len result) }
+        ensures logs { KeepsPrefixes carried_size self.old.switch self.new.switch }
     {
-        let before = self.posted;
-        for number in packets {
-            self.posted = deliver_on(&mut self.switch, *number).unwrap_or(self.posted);
+        let delivered = self.switch.deliver_all(k, packets);
+        let before = mem::replace(&mut self.posted, delivered.posted);
+        if !delivered.is_committed {
+            return Vec::new(alloc);
         }
-        self.hints(alloc, before, self.posted)
+        self.hints(alloc, before, delivered.posted)
+    }
+
+    /// Lets a node learn an entry for which it asks another node by packet `ask`: delivers that
+    /// packet, and then the answer, if there is one. Returns the number of the packet by which the
+    /// node then asks for the next entry, or `None` if it learned nothing.
+    pub fn learn(&mut self, ask: u64) -> Option<u64>
+        ensures { DeliversOneOrTwo self.old.switch self.new.switch ask }
+    {
+        let Some(answer) = self.deliver(ask) else {
+            return None;
+        };
+        self.deliver(answer)
+    }
+
+    /// Delivers a packet. Returns the number of the last packet that this posts, if it posts any.
+    fn deliver(&mut self, number: u64) -> Option<u64>
+        ensures { (answer : Result ℕ StepFault)
+            × Plays carried_size self.old.switch self.new.switch (Deliver number) answer }
+    {
+        let Ok(count) = deliver_on(&mut self.switch, number) else {
+            return None;
+        };
+        let before = mem::replace(&mut self.posted, count);
+        if count > before {
+            Some(count - 1)
+        } else {
+            None
+        }
+    }
+
+    /// Returns which of the packets of these hints asks the node that has the longest log of those
+    /// that are up, or `None` if all their logs are empty.
+    pub fn best_ask(&self, asks: &[Hint]) -> Option<u64> {
+        let mut longest = 0;
+        let mut best = None;
+        for hint in asks {
+            let log_len = self.log_len_if_up(hint.node);
+            if log_len > longest {
+                longest = log_len;
+                best = Some(hint.number);
+            }
+        }
+        best
+    }
+
+    /// Returns the length of the log of node `k` if it is up, and else 0.
+    fn log_len_if_up(&self, k: u8) -> u32 {
+        if self.switch.is_down(Some(k)) {
+            return 0;
+        }
+        match self.switch.state(k) {
+            Ok(state) => state.log_len,
+            Err(_) => 0,
+        }
     }
 
     /// Returns the hints of the packets `from..to`. If an allocation fails, that hint and all after

@@ -51,16 +51,17 @@ status promised down = record {
   is_down = down;
 }
 
--- a node that leads
-leading_node : node_line 0 (status 3 false) ≡ codes "0 up leads 3.0 learned 5 of 7 applied 5\n"
+-- a node that leads, and has learned five of the seven entries that it knows of
+leading_node : node_line 0 (status 3 false) None ≡ codes "0 up leads 3.0 learned 5 of 7 applied 5 recovering\n"
 unfolding status
 leading_node = rw (zero, three, five, seven) refl
 
 -- a node that has promised a higher ballot than that at which it leads does not lead; one that is
--- down tells the rest as any other
-outbid_node : node_line 1 (status 5 true) ≡ codes "1 down follows learned 5 of 7 applied 5\n"
+-- down tells the rest as any other, here with the bytes of its files
+outbid_node :
+    node_line 1 (status 5 true) (Some 3) ≡ codes "1 down follows learned 5 of 7 applied 5 stored 3 recovering\n"
 unfolding status
-outbid_node = rw (one, five, seven) refl
+outbid_node = rw (one, three, five, seven) refl
 
 -- the line of the events
 events : events_line 3 7 ≡ codes "events 3 of 7\n"

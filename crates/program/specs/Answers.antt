@@ -1,12 +1,12 @@
 -- The answers to questions about a label in the library of a node.
 -- Source: this project's own forms.
 -- The code asks the library, writes the lines of the answer, and counts them.
-use Rattle.std.specs.Prelude.{◌≡◌, ℕ, List, false, codes, flat_map}
+use Rattle.std.specs.Prelude.{◌≡◌, ℕ, List, Bool, false, true, codes, flat_map}
 use Rattle.library.specs.Words.{Name, Database}
 use Rattle.library.specs.Queries.{IsTrace, IsUsage, IsTreeOf}
 use Rattle.verify.specs.Derivations.{Derivation}
 use Rattle.commands.specs.declared.node_question.LabelQuestionKind.{LabelQuestionKind}
-use Rattle.commands.specs.declared.node_question.LabelQuestionKind.TheVariants.{Trace, Tree, Usage}
+use Rattle.commands.specs.declared.node_question.LabelQuestionKind.TheVariants.{Trace, Tree, Usage, UsageAll}
 use Rattle.printed.specs.Counted.{counted_lines_text}
 use Rattle.printed.specs.Trees.{label_line, tree_lines}
 
@@ -14,13 +14,17 @@ use Rattle.printed.specs.Trees.{label_line, tree_lines}
 abbrev pub labels_text : List ℕ → List Name → List ℕ
 labels_text word labels = counted_lines_text word (flat_map label_line labels)
 
--- the answer to the question about the label; the answers to `show` and `proof` are not specified;
--- `false` in that of `usage`: only the `$p` that cite the statement, not all that rest on it
+-- the answer to `usage`: the `$p` that cite the statement, or all that rest on it
+abbrev pub IsUsageAnswer : Database → Bool → Name → List ℕ → Type 0
+IsUsageAnswer S all label text =
+    (labels : List Name) × IsUsage S label all labels × (text ≡ labels_text (codes "usage") labels)
+
+-- the answer to the question about the label; the answers to `show` and `proof` are not specified
 abbrev pub IsLabelAnswer : Database → LabelQuestionKind → Name → List ℕ → Type 0
 IsLabelAnswer S Trace label text =
     (labels : List Name) × IsTrace S label labels × (text ≡ labels_text (codes "trace") labels)
-IsLabelAnswer S Usage label text =
-    (labels : List Name) × IsUsage S label false labels × (text ≡ labels_text (codes "usage") labels)
+IsLabelAnswer S Usage label text = IsUsageAnswer S false label text
+IsLabelAnswer S UsageAll label text = IsUsageAnswer S true label text
 IsLabelAnswer S Tree label text =
     (t : Derivation) × IsTreeOf S label t × (text ≡ counted_lines_text (codes "tree") (tree_lines S 0 t))
 IsLabelAnswer S kind label text = Unit {0}

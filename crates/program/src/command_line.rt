@@ -2,16 +2,21 @@
 use crate::play::play;
 use crate::play_picture::print_picture;
 use crate::serve::serve;
+use crate::stored::print_stored;
 use commands::{CommandLineFault, Request, VERSION, parse_command_line};
+use keep_folders::KeepFolder;
 use questions::{Fault, answer_question, print, print_outline, print_work, write_pages};
 use sites::Folder;
 use std::alloc::AllocError;
 use std::io::{Read, Write};
 use std::sync::Wait;
 use std::thread::Threads;
+use std::time::Clock;
+use world::Carried;
 
 /// Runs the command of these words, without the program's own name, and returns the exit status.
-/// The files that `pages` writes go into a folder that `folder` opens.
+/// The files that `pages` writes go into a folder that `folder` opens, and the nodes of
+/// `serve --store` have their keeps in one that `keeps` opens.
 ///
 /// The status is 0 if all is good (the version too), 1 after a refusal (of the input, of a line,
 /// out of memory) or a failed write, 2 for a bad command line, help, bad weights or a bad script.
@@ -19,14 +24,23 @@ use std::thread::Threads;
 /// all else that is printed (help, the text of a bad command line, explanations, notes, the
 /// progress of `pages`) goes to `stderr`, its standard error.
 pub fn run<
-    R: AllocGlobal + Threads + Wait + Copy + Send + Sync + Drop + 'static,
+    R: AllocGlobal + Threads + Wait + Clock + Copy + Send + Sync + Drop + 'static,
     I: Read,
     O: Write,
     F: Write,
     S: Folder,
->(rt: &R, words: &[&str], input: &mut I, output: &mut O, stderr: &mut F, folder: &mut S) -> u8 {
+    K: KeepFolder<Carried>,
+>(
+    rt: &R,
+    words: &[&str],
+    input: &mut I,
+    output: &mut O,
+    stderr: &mut F,
+    folder: &mut S,
+    keeps: &mut K,
+) -> u8 {
     let answered = match parse_command_line(rt.alloc(), words) {
-        Ok(request) => answer(rt, request, input, output, stderr, folder),
+        Ok(request) => answer(rt, request, input, output, stderr, folder, keeps),
         Err(CommandLineFault::Memory) => Err(Fault::from(AllocError)),
         Err(CommandLineFault::Bad { text }) => print(stderr, text.as_bytes()).map(|()| 2),
     };
@@ -38,11 +52,12 @@ pub fn run<
 
 /// Carries out a request, and returns the exit status.
 fn answer<
-    R: AllocGlobal + Threads + Wait + Copy + Send + Sync + Drop + 'static,
+    R: AllocGlobal + Threads + Wait + Clock + Copy + Send + Sync + Drop + 'static,
     I: Read,
     O: Write,
     F: Write,
     S: Folder,
+    K: KeepFolder<Carried>,
 >(
     rt: &R,
     request: Request<'_>,
@@ -50,6 +65,7 @@ fn answer<
     output: &mut O,
     stderr: &mut F,
     folder: &mut S,
+    keeps: &mut K,
 ) -> Result<u8, Fault> {
     match request {
         Request::Version => print_version(output),
@@ -61,7 +77,8 @@ fn answer<
         Request::Picture { options, steps } => {
             print_picture(rt.alloc(), options, steps, input, output)
         }
-        Request::Serve(options) => serve(rt, options, input, output),
+        Request::Serve(options) => serve(rt, &options, input, output, stderr, keeps),
+        Request::Store { folder } => print_stored(rt.alloc(), folder, output, stderr, keeps),
     }
 }
 

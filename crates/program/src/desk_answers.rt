@@ -1,6 +1,7 @@
 //! Answers about a node, asked at a desk: the calls of `nodes` by which any thread asks the nodes
 //! that `serve` starts.
-ghost use Rattle.std.specs.Prelude.{◌≡◌, ◌++◌, ◌≤◌, ℕ, List, Err, IfOk, OnOk};
+ghost use Rattle.std.specs.Prelude.{◌≡◌, ◌++◌, ◌≤◌, ℕ, List, Err, IfOk, OnOk, codes, length, option_and_then};
+ghost use Rattle.std.specs.Prelude.{option_map, slice_get, string_bytes, vec_len, if◌then◌else◌};
 ghost use Rattle.cluster.specs.Cell.{Cell};
 ghost use Rattle.net.specs.declared.event.Event.{Event as TakenEvent};
 ghost use Rattle.world.specs.declared.carried.Carried.{Carried as TakenEntry};
@@ -13,28 +14,80 @@ ghost use Rattle.printed.specs.Healths.{health_text};
 ghost use Rattle.printed.specs.States.{state_text};
 ghost use Rattle.event_lines.specs.EventLines.{counted_event_lines};
 ghost use Rattle.program.specs.Answers.{IsLabelAnswer};
+ghost use Rattle.program.specs.Stored.{store_text};
 
 use crate::node_answers::{ahead_line, label_answer};
 use crate::served_nodes::NodesDesk;
+use crate::stored::{FileSizes, StoredNodes};
 use crate::why::{Decision, decision_of, push_why};
 use cluster::NodeCell;
 use commands::{NodeEntryId, NodePair, NodeQuestion};
 use event_lines::push_events;
+use keep_folders::{push_damaged_line, push_kept_line};
+use net::StepFault;
 use printed::{push_carried_log, push_export, push_health, push_state};
 use questions::Fault;
 use std::alloc::{AllocError, Global};
+use std::io::Write;
 use std::sync::Wait;
-use world::Carried;
+use synod::{Keep, MAX_NODES};
+use world::{Carried, NodeStatus};
 
 /// A desk at which lines are answered, and the allocator of the answers.
 #[derive(Drop)]
-pub struct AnsweringDesk<'a, R: Wait> {
+pub struct AnsweringDesk<'a, R: Wait, K: Keep<Carried>, B: FileSizes, E: Write> {
     pub rt: &'a R,
     pub alloc: Global,
-    pub desk: &'a NodesDesk,
+    pub desk: &'a NodesDesk<K>,
+    pub sizes: &'a B,
+    pub stored: &'a StoredNodes,
+    pub stderr: &'a mut E,
+    /// For each node one above the greatest slot that it knew of when it was last restarted by a
+    /// line.
+    pub known: [u32; MAX_NODES],
 }
 
-impl<R: Wait> AnsweringDesk<'_, R> {
+impl<R: Wait, K: Keep<Carried>, B: FileSizes, E: Write> AnsweringDesk<'_, R, K, B, E> {
+    /// Restarts a node.
+    pub fn restart(&mut self, node: u8) -> Result<(), StepFault> {
+        self.desk.restart(self.rt, node)?;
+        if let Ok(status) = self.desk.node_status(self.rt, node)
+            && let Some(known) = self.known.get_mut(usize::from(node))
+        {
+            *known = status.state.top;
+        }
+        Ok(())
+    }
+
+    /// Says on the standard error if a node recovers: if it has not learned all entries that it knew
+    /// of when it was last restarted. Ignores a failed write.
+    pub fn tell_recovering(&mut self, node: u8) {
+        let known = self.known.get(usize::from(node)).copied().unwrap_or(0);
+        if known > 0
+            && let Ok(status) = self.desk.node_status(self.rt, node)
+            && status.state.log_len < known
+        {
+            let learned = status.state.log_len;
+            let _ = writeln!(
+                self.stderr,
+                "node {node} is recovering: it has learned {learned} of {known} entries"
+            );
+            let _ = self.stderr.flush();
+        }
+    }
+
+    /// Appends the bytes of a node's files, its promise, one above the greatest slot at which it
+    /// accepted or learned an entry, and `good` or `down`; of a damaged node why it is.
+    pub fn push_store(&self, node: u8, text: &mut Vec<u8>) -> Result<(), Fault>
+        ensures { OnOk result ((status : NodeStatus) × (bytes : ℕ) × IsNodeStatus node status
+            × (text.new.items ≡ text.old.items ++ store_text bytes status
+            (option_and_then (λ d. option_map (λ s. string_bytes s) d) (slice_get self.now.stored.now.damages.items node)))) }
+    {
+        let status = self.desk.node_status(self.rt, node)?;
+        let bytes = self.sizes.bytes(node)?;
+        Ok(push_store_line(text, bytes, &status, self.stored.damage(node))?)
+    }
+
     /// Appends the statements of a node's library.
     pub fn push_export(&self, node: u8, text: &mut Vec<u8>) -> Result<(), Fault>
         ensures { OnOk result ((cell : Cell) × IsOfNode node cell
@@ -67,13 +120,27 @@ impl<R: Wait> AnsweringDesk<'_, R> {
         Ok(push_state(text, &status.state, status.applied, status.is_down)?)
     }
 
-    /// Appends the state of each node, and how many events are taken.
+    /// Appends the state of each node, with how many bytes its files have if it has files, and how
+    /// many events are taken.
     pub fn push_health(&self, text: &mut Vec<u8>) -> Result<(), Fault>
-        ensures { OnOk result ((health : Health) × IsHealth self.now.desk.now health
-            × (text.new.items ≡ text.old.items ++ health_text health)) }
+        ensures { OnOk result ((health : Health) × (stored : List ℕ) × IsHealth self.now.desk.now health
+            × (length stored ≡ self.now.stored.now.file_count)
+            × (text.new.items ≡ text.old.items ++ health_text health stored)) }
     {
         let health = self.desk.health(self.rt)?;
-        Ok(push_health(text, &health)?)
+        let stored = self.stored_bytes()?;
+        Ok(push_health(text, &health, stored.as_slice())?)
+    }
+
+    /// Returns how many bytes the files of each node have, or nothing if the nodes have no files.
+    fn stored_bytes(&self) -> Result<Vec<u64>, AllocError>
+        ensures { IfOk result (λ bytes. vec_len bytes ≡ self.now.stored.now.file_count) }
+    {
+        let mut bytes = Vec::new(self.alloc);
+        for k in 0..self.stored.file_count {
+            bytes.push(self.sizes.bytes(k)?)?;
+        }
+        Ok(bytes)
     }
 
     /// Appends the answer to a question about a label of a node's library.
@@ -116,6 +183,32 @@ impl<R: Wait> AnsweringDesk<'_, R> {
         let events = self.desk.history(self.rt)?;
         Ok(push_events(self.alloc, text, events.as_slice())?)
     }
+}
+
+/// Appends what a node with this status keeps, or why it is damaged.
+fn push_store_line(
+    text: &mut Vec<u8>,
+    bytes: u64,
+    status: &NodeStatus,
+    damage: Option<&str>,
+) -> Result<(), AllocError>
+    ensures { OnOk result (text.new.items
+        ≡ text.old.items ++ store_text bytes status.now (option_map (λ s. s.now) damage.entry)) }
+{
+    match damage {
+        Some(damage) => push_damaged_line(text, bytes, damage),
+        None => {
+            let state = state_word(status.is_down);
+            push_kept_line(text, bytes, status.state.promise, status.state.top, state)
+        }
+    }
+}
+
+/// Returns the word for a node that is not damaged.
+fn state_word(is_down: bool) -> &'static [u8]
+    ensures { result.now ≡ (if is_down then codes "down" else codes "good") }
+{
+    if is_down { b"down" } else { b"good" }
 }
 
 /// Returns what a cell decided on an entry.

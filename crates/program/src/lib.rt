@@ -13,14 +13,18 @@
 
 mod command_line;
 mod desk_answers;
+mod memory_keeps;
 mod node_answers;
 mod play;
 mod play_picture;
+mod recovery;
 mod scripts;
 mod serve;
 mod served_nodes;
 mod served_weather;
 mod session;
+mod stored;
 mod why;
 
 pub use command_line::run;
+pub use memory_keeps::MemoryKeeps;

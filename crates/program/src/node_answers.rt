@@ -2,9 +2,8 @@
 ghost use Rattle.std.specs.Prelude.{◌≡◌, ◌↔◌, ◌<◌, length, IfOk};
 ghost use Rattle.cluster.specs.declared.compare.Ahead.TheVariants.{First, Same, Second};
 ghost use Rattle.commands.specs.declared.node_question.LabelQuestionKind.TheVariants.{Trace, Tree};
-ghost use Rattle.commands.specs.declared.node_question.LabelQuestionKind.TheVariants.{Usage};
 ghost use Rattle.printed.specs.Counted.{counted_lines_text};
-ghost use Rattle.program.specs.Answers.{IsLabelAnswer, labels_text};
+ghost use Rattle.program.specs.Answers.{IsLabelAnswer, IsUsageAnswer, labels_text};
 
 use cluster::Ahead;
 use commands::{LabelQuestionKind, NodeQuestion};
@@ -29,7 +28,8 @@ pub fn label_answer(
     let label = question.label.as_slice();
     match question.kind {
         LabelQuestionKind::Trace => trace_answer(alloc, library, label),
-        LabelQuestionKind::Usage => usage_answer(alloc, library, label),
+        LabelQuestionKind::Usage => usage_answer(alloc, library, label, false),
+        LabelQuestionKind::UsageAll => usage_answer(alloc, library, label, true),
         LabelQuestionKind::Tree => tree_answer(alloc, library, label),
         LabelQuestionKind::Show | LabelQuestionKind::Proof => written_answer(
             alloc, library, question,
@@ -46,12 +46,12 @@ fn trace_answer(alloc: Global, library: &Library, label: &[u8]) -> Result<Vec<u8
     Ok(counted_labels(alloc, b"trace", labels.as_slice())?)
 }
 
-/// Returns the answer to `usage`.
-fn usage_answer(alloc: Global, library: &Library, label: &[u8]) -> Result<Vec<u8>, Fault>
-    ensures { IfOk result (λ text. IsLabelAnswer
-        library.now.replica.statements Usage label.now text.items) }
+/// Returns the answer to `usage`: the `$p` that cite the statement, or all that rest on it.
+fn usage_answer(alloc: Global, library: &Library, label: &[u8], all: bool) -> Result<Vec<u8>, Fault>
+    ensures { IfOk result (λ text. IsUsageAnswer
+        library.now.replica.statements all label.now text.items) }
 {
-    let labels = library.usage(label, false)?;
+    let labels = library.usage(label, all)?;
     Ok(counted_labels(alloc, b"usage", labels.as_slice())?)
 }
 

@@ -1,7 +1,7 @@
 //! Scripts and sessions (`serve --live`): their lines, answered one by one.
-use commands::{Line, parse_script};
+use commands::{LINE_FEED, Line, ScriptFault, parse_script};
 use questions::{Fault, print, read_at_most};
-use std::alloc::Global;
+use std::alloc::{AllocError, Global};
 use std::io::{Read, Write};
 use std::vec::IntoIter;
 
@@ -41,7 +41,34 @@ impl<L: Drop> LineSource<L> for IntoIter<L> {
 /// Reads the whole input as the lines of a command.
 pub fn read_script<L: Line, I: Read>(alloc: Global, input: &mut I) -> Result<Vec<L>, Fault> {
     let script = read_at_most(alloc, input, usize::MAX)?;
-    Ok(parse_script(alloc, script.as_slice())?)
+    match parse_script(alloc, script.as_slice()) {
+        Ok(lines) => Ok(lines),
+        Err(ScriptFault::Memory) => Err(Fault::Memory(AllocError)),
+        Err(ScriptFault::BadLine { number }) => {
+            let (line, following) = line_at(script.as_slice(), number);
+            Err(Fault::BadLine {
+                number,
+                expected: L::expected(line, following),
+            })
+        }
+    }
+}
+
+/// Returns the line with a number, counted from 1, and the bytes after it.
+fn line_at(script: &[u8], number: usize) -> (&[u8], &[u8]) {
+    let mut lines = split_line(script);
+    for _line in 1..number {
+        lines = split_line(lines.1);
+    }
+    lines
+}
+
+/// Returns the bytes before the first line feed, and those after it.
+pub fn split_line(text: &[u8]) -> (&[u8], &[u8]) {
+    match text.iter().position(|byte| *byte == LINE_FEED) {
+        Some(end) => (&text[..end], &text[end + 1..]),
+        None => (text, b""),
+    }
 }
 
 /// Prints the answer to each line, and returns the exit status. If the source is live, each answer

@@ -2,10 +2,10 @@
 //! (`serve --live`), in which each line is answered before the next one is read.
 ghost use Rattle.std.specs.Prelude.{◌≤◌, OnOk, vec_len};
 
-use crate::scripts::{LineSource, read_script};
+use crate::scripts::{LineSource, read_script, split_line};
 use commands::{
-    LINE_FEED, ScriptFault, ServeLine, SessionLine, TextEnd, expected_form, first_word,
-    parse_script, text_end,
+    ExpectedLine, LINE_FEED, Line, ScriptFault, ServeLine, SessionLine, TextEnd, parse_script,
+    text_end,
 };
 use questions::Fault;
 use std::alloc::{AllocError, Global};
@@ -58,8 +58,15 @@ pub struct Session<'a, I: Read> {
 }
 
 impl<I: Read> LineSource<ServedLine> for Session<'_, I> {
+    /// Reads the next line, with the lines of its text, and parses it. An empty line is a bad one.
     fn next_line(&mut self) -> Result<Option<ServedLine>, Fault> {
-        self.read_next()
+        self.text.clear();
+        if !self.read_line()? {
+            return Ok(None);
+        }
+        let number = self.number;
+        self.read_text()?;
+        Ok(Some(self.parse_line(number)))
     }
 
     fn is_live(&self) -> bool {
@@ -80,37 +87,20 @@ impl<'a, I: Read> Session<'a, I> {
         })
     }
 
-    /// Reads the next line that is not empty, with the lines of its text, and parses it. Returns
-    /// `None` at the end of the input.
-    ///
-    /// Errors: the input cannot be read; an allocation fails for what is read.
-    fn read_next(&mut self) -> Result<Option<ServedLine>, Fault> {
-        for _ in 0..u64::MAX {
-            self.text.clear();
-            if !self.read_line()? {
-                return Ok(None);
+    /// Parses the line that was read last, which has this number.
+    fn parse_line(&self, number: usize) -> ServedLine {
+        let expected = match parse_script::<SessionLine>(self.alloc, self.text.as_slice()) {
+            Ok(mut lines) => match lines.pop() {
+                Some(line) => return Ok(line),
+                None => ExpectedLine::EMPTY,
+            },
+            Err(ScriptFault::Memory) => return Err(Fault::Memory(AllocError)),
+            Err(ScriptFault::BadLine { .. }) => {
+                let (line, following) = split_line(self.text.as_slice());
+                SessionLine::expected(line, following)
             }
-            let number = self.number;
-            self.read_text()?;
-            match self.parse_line(number) {
-                Ok(None) => {}
-                Ok(Some(line)) => return Ok(Some(Ok(line))),
-                Err(fault) => return Ok(Some(Err(fault))),
-            }
-        }
-        Ok(None)
-    }
-
-    /// Parses the line that was read last, which has this number. Returns `None` if it is empty.
-    fn parse_line(&self, number: usize) -> Result<Option<SessionLine>, Fault> {
-        match parse_script::<SessionLine>(self.alloc, self.text.as_slice()) {
-            Ok(mut lines) => Ok(lines.pop()),
-            Err(ScriptFault::Memory) => Err(Fault::Memory(AllocError)),
-            Err(ScriptFault::BadLine { .. }) => Err(Fault::BadSessionLine {
-                number,
-                expected: expected_form(first_word(first_line(self.text.as_slice()))),
-            }),
-        }
+        };
+        Err(Fault::BadSessionLine { number, expected })
     }
 
     /// Appends the lines that are the text of the line, if it has its text on the lines that
@@ -118,7 +108,7 @@ impl<'a, I: Read> Session<'a, I> {
     fn read_text(&mut self) -> Result<(), Fault> {
         // The line feed included.
         let line_length = self.text.len();
-        match text_end(first_line(self.text.as_slice())) {
+        match text_end(split_line(self.text.as_slice()).0) {
             None => Ok(()),
             Some(TextEnd::AfterBytes(count)) => {
                 self.read_bytes(line_length.saturating_add(count as usize).saturating_add(1))
@@ -144,7 +134,7 @@ impl<'a, I: Read> Session<'a, I> {
     fn read_until(&mut self, word: &[u8]) -> Result<(), Fault> {
         for _ in 0..u64::MAX {
             let start = self.text.len();
-            if !self.read_line()? || first_line(&self.text[start..]) == word {
+            if !self.read_line()? || split_line(&self.text[start..]).0 == word {
                 break;
             }
         }
@@ -167,13 +157,5 @@ impl<'a, I: Read> Session<'a, I> {
             }
             Err(_) => Err(Fault::Input),
         }
-    }
-}
-
-/// Returns the bytes before the first line feed.
-fn first_line(text: &[u8]) -> &[u8] {
-    match text.iter().position(|byte| *byte == LINE_FEED) {
-        Some(end) => &text[..end],
-        None => text,
     }
 }

@@ -4,4 +4,7 @@ pub mod WritingLemmas
 pub mod BlockWords
 pub mod WrappedLemmas
 pub mod FrameLemmas
+pub mod PositionLemmas
+pub mod ColourLemmas
+pub mod GroupLemmas
 mod BlockRows

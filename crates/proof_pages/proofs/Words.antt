@@ -1,14 +1,10 @@
 -- Re-exports of the definitions and lemmas with which this crate is proved.
-pub use Rattle.text.specs.FileNames.{file_name}
 pub use Rattle.text.specs.Escapes.{html_text}
-pub use Rattle.mm_read.specs.declared.stmt.Stmt.TheVariants.{Open}
-pub use Rattle.proof_pages.specs.Indexes.{index_row}
 pub use Rattle.proof_pages.specs.Notations.{symbol_html}
 pub use Rattle.proof_pages.specs.Graphs.{arrow_line, node_text, graph_header, quoted_symbol}
 pub use Rattle.proof_pages.specs.StepLines.{comma_and_number, expr_text, number_text, step_line, symbol_text, taken_text, concat_texts}
 pub use Rattle.proof_pages.specs.TableRows.{item_html}
 pub use Rattle.proof_pages.specs.Writing.{IsWrittenThenBuffered}
-pub use Rattle.proof_pages.specs.declared.index.TheConstants.{INDEX_START}
 pub use Rattle.scope.specs.Active.{stmt_at}
 pub use Rattle.std.proofs.Common.{ap, arith, length, subst, sym, take, ◌++◌, ◌<◌, ◌∙◌, ◌≡◌}
 pub use Rattle.std.proofs.lemmas.List.{append-nil, append_assoc, length-take-le, take_all, take_more}

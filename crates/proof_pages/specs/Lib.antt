@@ -3,8 +3,13 @@ pub mod StepLines
 pub mod Graphs
 pub mod Notations
 pub mod TableRows
-pub mod Indexes
+pub mod LabelPages
+pub mod Openings
+pub mod Sections
+pub mod Partitions
 pub mod Writing
+pub mod Colours
+pub mod Pages
 pub mod Lines
 pub mod Wrapped
 pub mod Blocks

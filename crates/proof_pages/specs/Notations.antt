@@ -2,7 +2,8 @@
 -- Source: HTML, links; this project's own form.
 -- The code adds each part to the end of a buffer.
 use Rattle.std.specs.Prelude.{ℕ, ◌==◌, Bool, ◌&&◌, if◌then◌else◌, List, [], ◌++◌, codes, decimal, flat_map, get_or, Option, Some, None}
-use Rattle.proof_pages.specs.Words.{Name, Stmt, Database, is_assertion, stmt_at, name_at, label_or_empty, html_text, file_name}
+use Rattle.markup.specs.Links.{page_link}
+use Rattle.proof_pages.specs.Words.{Name, Stmt, Database, is_assertion, stmt_at, name_at, label_or_empty, html_text}
 
 -- a variable of the first CSS class, and a variable of another class
 abbrev pub first_css_class_html : Name → List ℕ
@@ -21,13 +22,6 @@ symbol_html names css_classes symbol = codes " " ++ coloured (get_or css_classes
 
 abbrev pub expr_html : List Name → List ℕ → List ℕ → List ℕ
 expr_html names css_classes expr = flat_map (symbol_html names css_classes) expr
-
--- the start of a link to the file of the assertion with this label at this position
-unfoldable pub link_start : Name → ℕ → List ℕ
-link_start label position = codes "<a href=\"" ++ file_name label position ++ codes "\">"
-
-abbrev pub page_link : Name → ℕ → List ℕ
-page_link label position = link_start label position ++ html_text label ++ codes "</a>"
 
 -- the label of the statement at a position, as a link if it is an assertion and labels are linked
 abbrev pub label_html : Bool → ℕ → Stmt → List ℕ

@@ -35,7 +35,3 @@ item_html linked S position = codes "<li>" ++ label_at_html linked S position ++
 -- a list of one label and others
 abbrev pub list_html : Bool → Database → ℕ → List ℕ → List ℕ
 list_html linked S first others = codes "<ul>\n" ++ item_html linked S first ++ flat_map (item_html linked S) others ++ codes "</ul>\n"
-
-abbrev pub labels_html : Bool → Database → List ℕ → List ℕ
-labels_html linked S [] = codes "<p>None</p>\n"
-labels_html linked S (position ∷ positions) = list_html linked S position positions

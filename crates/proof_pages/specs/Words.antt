@@ -1,5 +1,4 @@
 -- The definitions of other crates that this crate's specifications use, re-exported.
-pub use Rattle.text.specs.FileNames.{file_name}
 pub use Rattle.text.specs.Escapes.{html_text, quoted_text}
 pub use Rattle.mm_lex.specs.Alphabet.{Name}
 pub use Rattle.mm_lex.specs.Words.{spaced}

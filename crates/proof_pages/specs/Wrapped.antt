@@ -3,11 +3,10 @@
 -- The code goes from word to word.
 use Rattle.std.specs.Prelude.{ℕ, Bool, ◌+◌, ◌==◌, nat_le, List, [], ◌∷◌, ◌++◌, length, codes, if◌then◌else◌}
 use Rattle.mm_lex.specs.Alphabet.{Name}
-use Rattle.proof_pages.specs.declared.wrapping.TheConstants.{WIDTH}
 
 -- a space and the word still fit into a line of `column` bytes
 abbrev pub fits : ℕ → Name → Bool
-fits column w = nat_le (column + 1 + length w) WIDTH
+fits column w = nat_le (column + 1 + length w) 78
 
 -- the bytes before a word: none at the beginning of a line, a space if the word fits, else a line
 -- feed

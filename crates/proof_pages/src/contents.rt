@@ -1,4 +1,5 @@
 //! The contents of a page.
+use crate::typecodes::Typecodes;
 use frame::Frames;
 use mm_read::Stmt;
 use steps::ProofTable;
@@ -10,6 +11,8 @@ pub struct PageContents<'a> {
     pub statements: &'a [Stmt],
     /// The frames of these statements (no clause requires it).
     pub frames: &'a Frames,
+    /// The CSS classes of the typecodes of the database.
+    pub typecodes: &'a Typecodes,
     /// The position of the assertion.
     pub at: usize,
     /// The steps of its proof, if it is a theorem (no clause requires it).
@@ -34,6 +37,9 @@ pub struct RelatedItems<'a> {
     pub axioms: &'a [u32],
     /// The positions of the theorems whose proofs cite it, ascending.
     pub cited_by: &'a [u32],
+    /// For each statement whether it is a theorem that is not proved and was taken as a `$a`; a
+    /// statement without a mark is none.
+    pub is_unproved: &'a [bool],
     /// The text of its description, between the delimiters of the comment.
     pub description: Option<&'a [u8]>,
 }

@@ -6,10 +6,10 @@
 //! and in a graph, by its `push_quoted`; a line of text has it as it is. A file name in a link
 //! needs no escape: `push_file_name` makes it from the label.
 //!
-//! Reading order: `step_lines`, `graph`, `writing`; `notation`, `rows`; `contents`, `css_classes`,
-//! `page_values`, `partition`, `style`, `opening`, `frame_part`, `proof_part`, `page`, `index`;
-//! `block_input`, `statement_line`, `frame_lines`, `wrapping` (a description in lines of at most 78
-//! bytes), `block`.
+//! Reading order: `step_lines`, `graph`, `writing`; `typecodes`, `css_classes`, `notation`, `rows`;
+//! `contents`, `page_values`, `style`, `label_pages`, `neighbours`, `opening`, `sections`,
+//! `partition`, `frame_part`, `proof_part`, `page`; `block_input`, `statement_line`,
+//! `frame_lines`, `wrapping` (a description in lines of at most 78 bytes), `block`.
 #![tactic(auto)]
 
 mod block;
@@ -19,7 +19,8 @@ mod css_classes;
 mod frame_lines;
 mod frame_part;
 mod graph;
-mod index;
+mod label_pages;
+mod neighbours;
 mod notation;
 mod opening;
 mod page;
@@ -27,16 +28,18 @@ mod page_values;
 mod partition;
 mod proof_part;
 mod rows;
+mod sections;
 mod statement_line;
 mod step_lines;
 mod style;
+mod typecodes;
 mod wrapping;
 mod writing;
 
 pub use block::push_block;
 pub use block_input::BlockInput;
 pub use contents::{PageContents, ProofSteps, RelatedItems};
-pub use index::write_index;
 pub use page::{write_page, write_site_page};
 pub use style::style_sheet;
+pub use typecodes::Typecodes;
 pub use writing::{WriteFault, write_dot, write_step_lines};

@@ -2,14 +2,15 @@
 ghost use Rattle.std.specs.Prelude.{◌≡◌, ◌++◌, Some, flat_map, OnOk};
 ghost use Rattle.verify.specs.Proves.{label_or_empty};
 ghost use Rattle.proof_pages.specs.Notations.{first_css_class_html, variable_html, coloured};
-ghost use Rattle.proof_pages.specs.Notations.{symbol_html, expr_html, link_start, page_link};
-ghost use Rattle.proof_pages.specs.Notations.{label_html, label_at_html};
+ghost use Rattle.proof_pages.specs.Notations.{symbol_html, expr_html, label_html, label_at_html};
 
 use crate::css_classes::CssClasses;
+use crate::typecodes::class_in;
 use frame::{Frames, is_assertion};
+use markup::push_page_link;
 use mm_read::Stmt;
 use std::alloc::AllocError;
-use text::{push_file_name, push_html, push_number};
+use text::{push_html, push_number};
 
 /// How a page shows the symbols and the labels of a database.
 #[derive(Drop)]
@@ -65,11 +66,7 @@ fn push_html_symbol(
     ensures { OnOk result (page.new.items ≡ page.old.items
         ++ symbol_html notation.now.frames.now.names notation.now.css_classes.now.by_symbol.items symbol) }
 {
-    let css_classes = notation.css_classes;
-    let css_class = match css_classes.by_symbol.get(symbol as usize) {
-        Some(css_class) => *css_class,
-        None => 0,
-    };
+    let css_class = class_in(&notation.css_classes.by_symbol, symbol);
     page.extend_from_slice(b" ")?;
     push_coloured(page, css_class, notation.frames.symbol(symbol))
 }
@@ -100,24 +97,6 @@ pub fn label_of(statement: &Stmt) -> &[u8]
         Stmt::Prove { label, .. } => label.as_bytes(),
         _ => &[],
     }
-}
-
-/// Appends the start of a link to the page of the assertion with this label at this position.
-fn push_link_start(page: &mut Vec<u8>, label: &[u8], position: usize) -> Result<(), AllocError>
-    ensures { OnOk result (page.new.items ≡ page.old.items ++ link_start label.now position) }
-{
-    page.extend_from_slice(b"<a href=\"")?;
-    push_file_name(page, label, position)?;
-    page.extend_from_slice(b"\">")
-}
-
-/// Appends a label as a link to the page of the assertion with this label at this position.
-pub fn push_page_link(page: &mut Vec<u8>, label: &[u8], position: usize) -> Result<(), AllocError>
-    ensures { OnOk result (page.new.items ≡ page.old.items ++ page_link label.now position) }
-{
-    push_link_start(page, label, position)?;
-    push_html(page, label)?;
-    page.extend_from_slice(b"</a>")
 }
 
 /// Appends the label of the statement at a position, as a link if it is an assertion and labels are

@@ -1,6 +1,11 @@
 //! The page of an assertion: alone, or among the pages of a site.
 ghost use Rattle.mm_read.specs.declared.stmt.Stmt.{Stmt as Statement};
+ghost use Rattle.std.specs.Prelude.{◌≡◌, false, true, IfOk, OnOk};
+ghost use Rattle.std.specs.Io.KnownBytes.{Appends};
 ghost use Rattle.frame.specs.FrameOf.{HasAssertion};
+ghost use Rattle.proof_pages.specs.Colours.{page_classes_view};
+ghost use Rattle.proof_pages.specs.Pages.{hypotheses_at, page_classes, page_html, parts_html};
+ghost use Rattle.proof_pages.specs.Pages.{view_of};
 
 use crate::contents::PageContents;
 use crate::css_classes::CssClasses;
@@ -29,13 +34,15 @@ pub fn write_page<W: Write>(
     shows_all_steps: bool,
 ) -> Result<(), WriteFault>
     requires { (s : Statement) × HasAssertion contents.now.frames.now.statements contents.now.at s }
+    ensures { OnOk result (Appends (W.contents out.old) (W.contents out.new)
+        (page_html false shows_all_steps contents.now)) }
 {
     write_contents(alloc, out, contents, false, shows_all_steps)
 }
 
 /// Writes the page of an assertion as part of a site: the page of `write_page` with only the
-/// essential steps, with the word "Theorem" if `contents` has a proof and else "Axiom", and with
-/// links to the style sheet, to the index and to the pages of the assertions that it names.
+/// essential steps, with the kind of the assertion, and with links to the style sheet, to the
+/// index, to the pages before and after, and to the pages of the assertions that it names.
 ///
 /// Errors and cost: those of `write_page`.
 pub fn write_site_page<W: Write>(
@@ -44,6 +51,8 @@ pub fn write_site_page<W: Write>(
     contents: &PageContents<'_>,
 ) -> Result<(), WriteFault>
     requires { (s : Statement) × HasAssertion contents.now.frames.now.statements contents.now.at s }
+    ensures { OnOk result (Appends (W.contents out.old) (W.contents out.new)
+        (page_html true false contents.now)) }
 {
     write_contents(alloc, out, contents, true, false)
 }
@@ -57,9 +66,11 @@ fn write_contents<W: Write>(
     shows_all_steps: bool,
 ) -> Result<(), WriteFault>
     requires { (s : Statement) × HasAssertion contents.now.frames.now.statements contents.now.at s }
+    ensures { OnOk result (Appends (W.contents out.old) (W.contents out.new)
+        (page_html is_linked shows_all_steps contents.now)) }
 {
     let hypotheses = hypotheses_of(alloc, contents.frames, contents.at)?;
-    let css_classes = css_classes_of(alloc, contents, &hypotheses)?;
+    let css_classes = css_classes_of(alloc, contents, hypotheses.as_slice())?;
     let values = PageValues {
         contents,
         notation: Notation {
@@ -80,8 +91,11 @@ fn write_parts<W: Write>(
     out: &mut W,
     values: &PageValues<'_>,
 ) -> Result<(), WriteFault>
-    requires { (s : Statement) × HasAssertion values.now.contents.now.frames.now.statements
+    requires { (s : Statement) × HasAssertion values.now.notation.frames.now.statements
         values.now.contents.now.at s }
+    ensures { OnOk result (Appends (W.contents out.old) (W.contents out.new)
+        (parts_html (view_of values.now.notation) values.now.hypotheses.now
+        values.now.shows_all_steps values.now.contents.now)) }
 {
     let mut page = Vec::new(alloc);
     push_opening(&mut page, values)?;
@@ -95,6 +109,7 @@ fn write_parts<W: Write>(
 /// Returns the positions of the mandatory hypotheses of the assertion at a position.
 fn hypotheses_of(alloc: Global, frames: &Frames, at: usize) -> Result<Vec<u32>, AllocError>
     requires { (s : Statement) × HasAssertion frames.now.statements at s }
+    ensures { IfOk result (λ list. list.items ≡ hypotheses_at frames.now.statements at) }
 {
     let mut hypotheses = Vec::new(alloc);
     frames.mandatory(at, &mut hypotheses)?;
@@ -107,16 +122,14 @@ fn css_classes_of(
     alloc: Global,
     contents: &PageContents<'_>,
     hypotheses: &[u32],
-) -> Result<CssClasses, AllocError> {
+) -> Result<CssClasses, AllocError>
+    ensures { IfOk result
+        (λ classes. page_classes_view classes ≡ page_classes contents.now hypotheses.now) }
+{
     let mut css_classes = CssClasses::new(alloc);
-    for position in hypotheses {
-        css_classes.record(contents.statements, contents.frames, *position as usize)?;
-    }
+    css_classes.record_hypotheses(contents, hypotheses)?;
     if let Some(proof) = &contents.proof {
-        for index in 0..proof.steps.len() {
-            let position = proof.steps.position(index);
-            css_classes.record(contents.statements, contents.frames, position)?;
-        }
+        css_classes.record_steps(contents, proof.steps)?;
     }
     Ok(css_classes)
 }

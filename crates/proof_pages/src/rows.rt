@@ -4,7 +4,6 @@ ghost use Rattle.std.specs.Prelude.{◌≡◌, ◌<◌, ◌++◌, length, get_or
 ghost use Rattle.steps.specs.Rows.{no_row};
 ghost use Rattle.proof_pages.specs.TableRows.{link_html, row_start, number_and_links_html};
 ghost use Rattle.proof_pages.specs.TableRows.{row_rest, step_html, item_html, list_html};
-ghost use Rattle.proof_pages.specs.TableRows.{labels_html};
 
 use crate::notation::{Notation, push_html_expr, push_label_at};
 use crate::step_lines::push_step_number;
@@ -120,7 +119,9 @@ fn push_items(
 }
 
 /// Appends a list of labels: of the statement at `first`, then of those at `others`.
-fn push_list(
+///
+/// Errors: an allocation fails. Cost: the size of the list.
+pub(crate) fn push_list(
     page: &mut Vec<u8>,
     notation: &Notation<'_>,
     first: u32,
@@ -133,21 +134,4 @@ fn push_list(
     push_item(page, notation, first)?;
     push_items(page, notation, others)?;
     page.extend_from_slice(b"</ul>\n")
-}
-
-/// Appends the labels of the statements at these positions as a list, or the text "None".
-///
-/// Errors: an allocation fails. Cost: the size of the list.
-pub(crate) fn push_labels(
-    page: &mut Vec<u8>,
-    notation: &Notation<'_>,
-    positions: &[u32],
-) -> Result<(), AllocError>
-    ensures { OnOk result (page.new.items ≡ page.old.items
-        ++ labels_html notation.now.is_linked notation.now.statements.now positions.now) }
-{
-    match positions.split_first() {
-        None => page.extend_from_slice(b"<p>None</p>\n"),
-        Some((first, others)) => push_list(page, notation, *first, others),
-    }
 }

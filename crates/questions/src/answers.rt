@@ -60,13 +60,27 @@ pub fn write_answer<O: Write>(
         Question::Show(labels) => {
             print(
                 output,
-                blocks_of_labels(alloc, library, text, labels.as_slice())?.as_slice(),
+                blocks_of_labels(
+                    alloc,
+                    library.statements(),
+                    library.frames(),
+                    text,
+                    labels.as_slice(),
+                )?
+                .as_slice(),
             )
         }
         Question::Find(query) => {
             print(
                 output,
-                matching_lines(alloc, library, text.bytes, query)?.as_slice(),
+                matching_lines(
+                    alloc,
+                    library.statements(),
+                    library.frames(),
+                    text.bytes,
+                    query,
+                )?
+                .as_slice(),
             )
         }
     }

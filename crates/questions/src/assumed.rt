@@ -4,8 +4,8 @@ use crate::databases::answer_accepted;
 use crate::fault::Fault;
 use crate::named_text::NamedText;
 use crate::streams::print;
-use commands::DatabaseQuestion;
-use library::Library;
+use commands::{DatabaseQuestion, Question};
+use library::{AskFault, Library};
 use mm_read::Stmt;
 use std::alloc::{AllocError, Global};
 use std::io::Write;
@@ -31,34 +31,141 @@ pub fn answer_assuming<R: AllocGlobal + Threads + Sync, O: Write, F: Write>(
     output: &mut O,
     stderr: &mut F,
 ) -> Result<u8, Fault> {
-    let library = assume_unproved(rt, database, stderr)?;
-    let answered = answer_accepted(
-        rt.alloc(),
-        &library,
-        text,
-        &request.question,
-        output,
-        stderr,
-    );
-    forget(library);
+    let assumed = assume_unproved(rt, database, stderr)?;
+    let answered = answer_marked(rt.alloc(), &assumed, text, request, output, stderr);
+    forget(assumed);
     answered
 }
 
-/// Returns a library of the statements of a text, each `$p` that is not proved taken as a `$a`. The
-/// count of these `$p` and the labels of the first `MAX_NAMED` go to `stderr`.
+/// Prints the answer about a library in which some `$a` are theorems that are not proved. `list`
+/// and the refusal of a question about the proof of such a theorem say so.
+fn answer_marked<O: Write, F: Write>(
+    alloc: Global,
+    assumed: &AssumedDatabase,
+    text: NamedText<'_>,
+    request: &DatabaseQuestion<'_>,
+    output: &mut O,
+    stderr: &mut F,
+) -> Result<u8, Fault> {
+    let library = &assumed.library;
+    let is_unproved = assumed.is_unproved.as_slice();
+    if let Question::List = &request.question {
+        let lines = assumed_list(alloc, library.statements(), is_unproved)?;
+        print(output, lines.as_slice())?;
+        return Ok(0);
+    }
+    if let Some(label) = question_of_proof(&request.question)
+        && is_marked_label(library, is_unproved, label)
+    {
+        Fault::Ask(AskFault::NotProvable).write(output)?;
+        let _ = print_not_proved(label, stderr);
+        return Ok(1);
+    }
+    answer_accepted(alloc, library, text, &request.question, output, stderr)
+}
+
+/// Returns the label of a question about the proof of a `$p`, or `None` for another question.
+fn question_of_proof<'a>(question: &Question<'a>) -> Option<&'a [u8]> {
+    match question {
+        Question::Tree(label) | Question::Trace(label) => Some(label),
+        Question::Proof(proof) => Some(proof.label),
+        _ => None,
+    }
+}
+
+/// Returns whether the statement with a label is marked.
+fn is_marked_label(library: &Library, marks: &[bool], label: &[u8]) -> bool {
+    match library.frames().position(label) {
+        Some(at) => is_marked(marks, at.saturating_sub(1)),
+        None => false,
+    }
+}
+
+/// Returns the mark at an index, or `false` if there is none.
+fn is_marked(marks: &[bool], index: usize) -> bool {
+    marks.get(index).copied().unwrap_or(false)
+}
+
+/// Prints that a theorem is not proved.
+fn print_not_proved<F: Write>(label: &[u8], stderr: &mut F) -> Result<(), Fault> {
+    stderr.write_all(label)?;
+    print(
+        stderr,
+        b" is a theorem, not proved; only a proof that is right has steps\n",
+    )
+}
+
+/// Returns the lines of `list`: those of the assertions of a library, in order.
+fn assumed_list(
+    alloc: Global,
+    statements: &[Stmt],
+    is_unproved: &[bool],
+) -> Result<Vec<u8>, AllocError> {
+    let mut lines = Vec::new(alloc);
+    for (index, statement) in statements.iter().enumerate() {
+        push_assumed(&mut lines, statement, is_marked(is_unproved, index))?;
+    }
+    Ok(lines)
+}
+
+/// Appends the line of an assertion, or nothing for another statement.
+fn push_assumed(
+    lines: &mut Vec<u8>,
+    statement: &Stmt,
+    is_unproved: bool,
+) -> Result<(), AllocError> {
+    let (kind, label) = match statement {
+        Stmt::Axiom { label, .. } if is_unproved => (b"theorem, not proved ".as_slice(), label),
+        Stmt::Axiom { label, .. } => (b"axiom ".as_slice(), label),
+        Stmt::Prove { label, .. } => (b"proved ".as_slice(), label),
+        _ => return Ok(()),
+    };
+    lines.extend_from_slice(kind)?;
+    lines.extend_from_slice(label.as_bytes())?;
+    lines.extend_from_slice(b"\n")
+}
+
+/// A library in which some `$a` are theorems that are not proved.
+#[derive(Drop)]
+pub struct AssumedDatabase {
+    pub library: Library,
+    /// For each statement whether it is such a theorem.
+    pub is_unproved: Vec<bool>,
+}
+
+/// Returns a library of the statements of a text, each `$p` that is not proved taken as a `$a`,
+/// with a mark for each of these. The count of these `$p` and the labels of the first `MAX_NAMED`
+/// go to `stderr`.
 pub fn assume_unproved<R: AllocGlobal + Threads + Sync, F: Write>(
     rt: &R,
     database: LegalDatabase,
     stderr: &mut F,
-) -> Result<Library, AllocError> {
+) -> Result<AssumedDatabase, AllocError> {
     let unproved = database.unproved(rt, PoolSize::for_machine(rt))?;
     print_assumed(rt.alloc(), &database, unproved.as_slice(), stderr);
-    database.into_assumed_library(unproved.as_slice())
+    let count = database.statements().len();
+    let is_unproved = marks_at(rt.alloc(), count, unproved.as_slice())?;
+    let library = database.into_assumed_library(unproved.as_slice())?;
+    Ok(AssumedDatabase {
+        library,
+        is_unproved,
+    })
+}
+
+/// Returns `count` marks, of which those at these positions, from 1, are set.
+fn marks_at(alloc: Global, count: usize, positions: &[usize]) -> Result<Vec<bool>, AllocError> {
+    let mut marks = vec![in alloc; false; count]?;
+    for position in positions {
+        if let Some(mark) = marks.get_mut(position.saturating_sub(1)) {
+            *mark = true;
+        }
+    }
+    Ok(marks)
 }
 
 /// Prints how many theorems are taken as axioms and the labels of the first `MAX_NAMED`, if there
 /// are any and if allocation succeeds.
-fn print_assumed<F: Write>(
+pub fn print_assumed<F: Write>(
     alloc: Global,
     database: &LegalDatabase,
     unproved: &[usize],

@@ -4,8 +4,9 @@ use crate::fault::Fault;
 use crate::named_text::NamedText;
 use crate::refused_questions::print_refused_question;
 use crate::refused_texts::{print_outline_reason, print_refused_text};
+use crate::searches::{answer_without_proofs, needs_no_proofs};
 use crate::streams::{print, read_text};
-use crate::unproved_proofs::{allows_unproved, answer_unproved, may_be_unfinished};
+use crate::unproved_proofs::{allows_unproved, answer_unproved, is_so_far, may_be_unfinished};
 use bytes::Bytes;
 use commands::{DatabaseQuestion, Question};
 use library::{Cause, Entry, Library, MAX_BYTES, Submission, Verdict};
@@ -73,7 +74,13 @@ fn answer_with_library<R: AllocGlobal + Threads + Sync, O: Write, F: Write>(
         name: request.name,
         bytes: bytes.as_slice(),
     };
-    if allows_unproved(request) && may_be_unfinished(text.bytes) {
+    if needs_no_proofs(&request.question) {
+        if let Some(status) = answer_without_proofs(rt, request, text, output, stderr)? {
+            return Ok(status);
+        }
+    } else if is_so_far(&request.question)
+        || allows_unproved(request) && may_be_unfinished(text.bytes)
+    {
         if let Some(status) = answer_unproved(rt, request, text, output, stderr)? {
             return Ok(status);
         }

@@ -1,6 +1,6 @@
 //! Why a command ends without its answer.
 use crate::streams::print;
-use commands::ScriptFault;
+use commands::ExpectedLine;
 use extract::ExtractFault;
 use library::AskFault;
 use net::StepFault;
@@ -42,13 +42,13 @@ pub enum Fault {
     #[error("bad line {number}")]
     BadLine {
         number: usize,
+        expected: ExpectedLine,
     },
-    /// A line of a session is bad. `expected` is the form of the line that its verb begins, or all
-    /// verbs.
+    /// A line of a session is bad.
     #[error("bad line {number}: {expected}")]
     BadSessionLine {
         number: usize,
-        expected: &'static str,
+        expected: ExpectedLine,
     },
     /// A write failed: nothing more is printed.
     #[error("")]
@@ -83,8 +83,8 @@ impl Fault {
         }
     }
 
-    /// Writes the line of this fault, and to `stderr` a sentence if the input, the output or a long
-    /// run is at fault; returns the exit status, as `print` does.
+    /// Writes the line of this fault, and to `stderr` a sentence if the input, the output, a line of
+    /// a script or a long run is at fault; returns the exit status, as `print` does.
     pub fn report<O: Write, F: Write>(&self, output: &mut O, stderr: &mut F) -> u8 {
         match self.write(output) {
             Ok(()) => {
@@ -104,6 +104,10 @@ impl Fault {
             Fault::Input => b"standard input cannot be read\n".as_slice(),
             Fault::Output => b"standard output cannot be written\n".as_slice(),
             Fault::LongRun => LONG_RUN,
+            Fault::BadLine { number, expected } => {
+                let _ = writeln!(stderr, "bad line {number}: {expected}");
+                b"".as_slice()
+            }
             _ => return,
         };
         let _ = print(stderr, words);
@@ -158,15 +162,6 @@ impl From<TextFault> for Fault {
         match fault {
             TextFault::TooLarge => Fault::LongProof,
             TextFault::Memory => Fault::Memory(AllocError),
-        }
-    }
-}
-
-impl From<ScriptFault> for Fault {
-    fn from(fault: ScriptFault) -> Fault {
-        match fault {
-            ScriptFault::Memory => Fault::Memory(AllocError),
-            ScriptFault::BadLine { number } => Fault::BadLine { number },
         }
     }
 }

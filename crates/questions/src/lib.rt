@@ -7,7 +7,8 @@
 //! Reading order: `fault` (why a command ends without its answer, and the line that says so),
 //! `streams` (reading and printing), `named_text`; `databases` (a database that is read and
 //! checked), `answers` (the answers of the commands that ask about a library), `proofs` (the steps
-//! of a proof), `proof_texts` (a proof as text), `searches` (searches for assertions), `shown` (the answers to `show`: statements as
+//! of a proof), `proof_texts` (a proof as text), `so_far` (its steps up to its first fault),
+//! `searches` (searches for assertions), `shown` (the answers to `show`: statements as
 //! blocks of lines), `works` (how much work a database is), `pages` (a site), `unproved_proofs`
 //! (questions that are answered even if some `$p` are not proved, among them `check --all`, which
 //! checks every `$p` by itself), `assumed` (each `$p` that is not proved taken as a `$a`),
@@ -26,6 +27,7 @@ mod refused_questions;
 mod refused_texts;
 mod searches;
 mod shown;
+mod so_far;
 mod streams;
 mod unproved_proofs;
 mod works;

@@ -1,5 +1,5 @@
 //! The command `pages`: a site of a database.
-use crate::assumed::assume_unproved;
+use crate::assumed::{AssumedDatabase, assume_unproved};
 use crate::databases::apply_text;
 use crate::fault::Fault;
 use crate::named_text::NamedText;
@@ -59,14 +59,14 @@ fn apply_and_write<R: AllocGlobal + Threads + Sync, O: Write, F: Write, S: Folde
     };
     match apply_text(rt, library, bytes)? {
         Verdict::Refused(cause) => assume_or_refuse(rt, request, text, cause, streams, folder),
-        _ => write_site_files(
-            rt.alloc(),
-            library,
-            text.bytes,
-            request.folder,
-            streams,
-            folder,
-        ),
+        _ => {
+            let site = SiteSources {
+                text: text.bytes,
+                library,
+                is_unproved: &[],
+            };
+            write_site_files(rt.alloc(), &site, request.folder, streams, folder)
+        }
     }
 }
 
@@ -100,33 +100,32 @@ fn assume_and_write<R: AllocGlobal + Threads + Sync, O: Write, F: Write, S: Fold
     folder: &mut S,
 ) -> Result<u8, Fault> {
     let Streams { output, stderr } = streams;
-    let library = assume_unproved(rt, database, stderr)?;
+    let AssumedDatabase {
+        library,
+        is_unproved,
+    } = assume_unproved(rt, database, stderr)?;
     let streams = Streams { output, stderr };
-    let answered = write_site_files(
-        rt.alloc(),
-        &library,
-        text.bytes,
-        request.folder,
-        streams,
-        folder,
-    );
+    let site = SiteSources {
+        text: text.bytes,
+        library: &library,
+        is_unproved: is_unproved.as_slice(),
+    };
+    let answered = write_site_files(rt.alloc(), &site, request.folder, streams, folder);
     forget(library);
     answered
 }
 
-/// Writes the files of the site of a library that was read from a text, and returns the exit
-/// status. The name of a file that cannot be written goes to `stderr`, and so does the progress.
+/// Writes the files of a site, and returns the exit status. The name of a file that cannot be
+/// written goes to `stderr`, and so does the progress.
 fn write_site_files<O: Write, F: Write, S: Folder>(
     alloc: Global,
-    library: &Library,
-    text: &[u8],
+    site: &SiteSources<'_>,
     path: &str,
     streams: Streams<'_, O, F>,
     folder: &mut S,
 ) -> Result<u8, Fault> {
     let Streams { output, stderr } = streams;
-    let site = SiteSources { text, library };
-    match write_site(alloc, &site, path, folder, stderr) {
+    match write_site(alloc, site, path, folder, stderr) {
         Ok(()) => Ok(0),
         Err(SiteFault::Memory) => Err(Fault::Memory(AllocError)),
         Err(SiteFault::Folder) => {
@@ -137,6 +136,11 @@ fn write_site_files<O: Write, F: Write, S: Folder>(
         Err(SiteFault::File(name)) => {
             print(output, b"refused Output\n")?;
             let _ = print_file_fault(stderr, path, name.as_slice());
+            Ok(1)
+        }
+        Err(SiteFault::Unfinished) => {
+            print(output, b"refused Output\n")?;
+            let _ = print_unfinished_fault(stderr, path);
             Ok(1)
         }
     }
@@ -155,4 +159,13 @@ fn print_file_fault<F: Write>(stderr: &mut F, path: &str, name: &[u8]) -> Result
     stderr.write_all(b"/")?;
     stderr.write_all(name)?;
     print(stderr, b" cannot be written\n")
+}
+
+/// Prints that the file of a run that was ended is in the way.
+fn print_unfinished_fault<F: Write>(stderr: &mut F, path: &str) -> Result<(), Fault> {
+    stderr.write_all(path.as_bytes())?;
+    print(
+        stderr,
+        b"/+unfinished is in the way: a run that was ended left it; remove it\n",
+    )
 }

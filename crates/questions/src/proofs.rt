@@ -12,7 +12,7 @@ use frame::Frames;
 use library::Library;
 use mm_lex::Word;
 use proof_pages::{
-    PageContents, ProofSteps, RelatedItems, write_dot, write_page, write_step_lines,
+    PageContents, ProofSteps, RelatedItems, Typecodes, write_dot, write_page, write_step_lines,
 };
 use std::alloc::{AllocError, Global};
 use std::io::Write;
@@ -115,9 +115,12 @@ fn write_proof_page<O: Write>(
         proof.frames,
         &proof.library.usage(question.label, false)?,
     )?;
+    let statements = proof.library.statements();
+    let typecodes = Typecodes::of(alloc, statements, proof.frames)?;
     let contents = PageContents {
-        statements: proof.library.statements(),
+        statements,
         frames: proof.frames,
+        typecodes: &typecodes,
         at: proof.at,
         proof: Some(ProofSteps {
             steps: proof.steps,
@@ -135,6 +138,7 @@ fn related_items<'a>(axioms: &'a [u32], cited_by: &'a [u32]) -> RelatedItems<'a>
     RelatedItems {
         axioms,
         cited_by,
+        is_unproved: &[],
         description: None,
     }
 }

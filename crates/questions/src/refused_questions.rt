@@ -3,6 +3,7 @@ use crate::fault::Fault;
 use crate::streams::print;
 use commands::Question;
 use extract::ExtractFault;
+use frame::Frames;
 use library::{AskFault, Library};
 use mm_read::Stmt;
 use std::io::Write;
@@ -31,13 +32,24 @@ fn write_reason<F: Write>(
     stderr: &mut F,
 ) -> Result<(), Fault> {
     let label = refused_label(library, question, fault);
+    write_label_reason(library.frames(), library.statements(), label, fault, stderr)
+}
+
+/// Writes why this label is refused. Writes nothing for a fault that is not about a label.
+pub fn write_label_reason<F: Write>(
+    frames: &Frames,
+    statements: &[Stmt],
+    label: &[u8],
+    fault: &Fault,
+    stderr: &mut F,
+) -> Result<(), Fault> {
     match fault {
         Fault::Ask(AskFault::NoLabel) | Fault::Extract(ExtractFault::NoLabel) => {
             stderr.write_all(b"no statement has the label ")?;
             stderr.write_all(label)?;
         }
         Fault::Ask(AskFault::NotProvable) => {
-            write_label_and_keyword(library, label, stderr)?;
+            write_label_and_keyword(frames, statements, label, stderr)?;
             stderr.write_all(b"; only a $p has a proof")?;
         }
         Fault::Ask(AskFault::TooLarge) => {
@@ -51,7 +63,7 @@ fn write_reason<F: Write>(
             )?;
         }
         Fault::Extract(ExtractFault::NotAssertion) => {
-            write_label_and_keyword(library, label, stderr)?;
+            write_label_and_keyword(frames, statements, label, stderr)?;
             stderr.write_all(b"; only an assertion can be extracted")?;
         }
         Fault::Extract(ExtractFault::SameLabel) => {
@@ -65,13 +77,14 @@ fn write_reason<F: Write>(
 
 /// Writes a label, and the keyword of the statement that has it.
 fn write_label_and_keyword<F: Write>(
-    library: &Library,
+    frames: &Frames,
+    statements: &[Stmt],
     label: &[u8],
     stderr: &mut F,
 ) -> Result<(), Fault> {
     stderr.write_all(label)?;
     stderr.write_all(b" is a ")?;
-    Ok(stderr.write_all(keyword_of(library, label))?)
+    Ok(stderr.write_all(keyword_of(frames, statements, label))?)
 }
 
 /// Returns the label for which a question is refused, or an empty label if it has none.
@@ -93,7 +106,10 @@ fn first_refused<'a>(library: &Library, labels: &[&'a str], fault: &Fault) -> &'
         let is_refused = match fault {
             Fault::Extract(ExtractFault::SameLabel) => labels[..index].contains(label),
             Fault::Extract(ExtractFault::NotAssertion) => {
-                matches!(keyword_of(library, label.as_bytes()), b"$f" | b"$e")
+                matches!(
+                    keyword_of(library.frames(), library.statements(), label.as_bytes()),
+                    b"$f" | b"$e"
+                )
             }
             _ => library.frames().position(label.as_bytes()).is_none(),
         };
@@ -105,11 +121,11 @@ fn first_refused<'a>(library: &Library, labels: &[&'a str], fault: &Fault) -> &'
 }
 
 /// Returns the keyword of the statement with a label, or an empty text if there is no statement.
-fn keyword_of(library: &Library, label: &[u8]) -> &'static [u8] {
-    let Some(at) = library.frames().position(label) else {
+fn keyword_of(frames: &Frames, statements: &[Stmt], label: &[u8]) -> &'static [u8] {
+    let Some(at) = frames.position(label) else {
         return b"";
     };
-    match library.statements().get(at.saturating_sub(1)) {
+    match statements.get(at.saturating_sub(1)) {
         Some(Stmt::Float { .. }) => b"$f",
         Some(Stmt::Ess { .. }) => b"$e",
         Some(Stmt::Axiom { .. }) => b"$a",

@@ -1,17 +1,25 @@
 //! The command `show`: statements as blocks of lines (not the blocks of `${` and `$}`). The
 //! description of a statement is the last comment between the statement before it and itself.
+ghost use Rattle.std.specs.Prelude.{◌≡◌};
+ghost use Rattle.scope.specs.Active.{bares};
+
 use crate::fault::Fault;
 use crate::named_text::NamedText;
-use library::{AskFault, Library};
+use frame::Frames;
+use library::AskFault;
 use memchr::memchr_iter;
 use mm_lex::{Span, tokens};
+use mm_read::Stmt;
 use places::{LineAndColumn, descriptions, line_and_column};
 use proof_pages::{BlockInput, push_block};
 use std::alloc::{AllocError, Global};
 
-/// A text, and the ends of its statements.
+/// A text, its statements, and where they end.
 #[derive(Drop)]
 struct DatabaseText<'a> {
+    statements: &'a [Stmt],
+    /// The frames of the statements.
+    frames: &'a Frames,
     /// The name of the file, which is printed before each line and column.
     name: Option<&'a str>,
     text: &'a [u8],
@@ -24,13 +32,18 @@ struct DatabaseText<'a> {
 /// Errors: `NoLabel` if no statement has one of the labels; `Memory` if an allocation fails.
 pub fn blocks_of_labels(
     alloc: Global,
-    library: &Library,
+    statements: &[Stmt],
+    frames: &Frames,
     text: NamedText<'_>,
     labels: &[&str],
-) -> Result<Vec<u8>, Fault> {
-    let positions = positions(alloc, library, labels)?;
+) -> Result<Vec<u8>, Fault>
+    requires { frames.now.statements ≡ bares statements.now }
+{
+    let positions = positions(alloc, frames, labels)?;
     let statement_ends = statement_ends(alloc, text.bytes)?;
     let database = DatabaseText {
+        statements,
+        frames,
         name: text.name,
         text: text.bytes,
         statement_ends: statement_ends.as_slice(),
@@ -40,16 +53,16 @@ pub fn blocks_of_labels(
         if !blocks.is_empty() {
             blocks.push(b'\n')?;
         }
-        push_statement_block(alloc, &mut blocks, library, &database, *at)?;
+        push_statement_block(alloc, &mut blocks, &database, *at)?;
     }
     Ok(blocks)
 }
 
 /// Returns the position of the statement of each label.
-fn positions(alloc: Global, library: &Library, labels: &[&str]) -> Result<Vec<usize>, Fault> {
+fn positions(alloc: Global, frames: &Frames, labels: &[&str]) -> Result<Vec<usize>, Fault> {
     let mut positions = Vec::new(alloc);
     for label in labels {
-        match library.frames().position(label.as_bytes()) {
+        match frames.position(label.as_bytes()) {
             Some(at) => positions.push(at)?,
             None => return Err(Fault::Ask(AskFault::NoLabel)),
         }
@@ -101,11 +114,12 @@ fn is_white(text: &[u8], at: usize) -> bool {
 fn push_statement_block(
     alloc: Global,
     blocks: &mut Vec<u8>,
-    library: &Library,
     database: &DatabaseText<'_>,
     at: usize,
-) -> Result<(), AllocError> {
-    let statements = library.statements();
+) -> Result<(), AllocError>
+    requires { database.now.frames.now.statements ≡ bares database.now.statements.now }
+{
+    let statements = database.statements;
     if at == 0 || at > statements.len() {
         return Ok(());
     }
@@ -114,7 +128,7 @@ fn push_statement_block(
     let descriptions = descriptions(alloc, statement_text)?;
     let input = BlockInput {
         statements,
-        frames: library.frames(),
+        frames: database.frames,
         statement: &statements[at - 1],
         position: at,
         line_and_column: first_line_and_column(alloc, database, start, statement_text)?,

@@ -7,8 +7,9 @@ use crate::answers::push_proved;
 use crate::assumed::answer_assuming;
 use crate::fault::Fault;
 use crate::named_text::NamedText;
+use crate::so_far::print_so_far;
 use crate::streams::print;
-use commands::{DatabaseQuestion, Question};
+use commands::{DatabaseQuestion, ProofForm, Question};
 use explanation::{TextTokens, explain_unproved};
 use library::{MAX_BYTES, Verdict};
 use memchr::memchr2_iter;
@@ -27,7 +28,17 @@ const MAX_EXPLAINED: usize = 100;
 
 /// Returns whether a question is answered even if some `$p` are not proved.
 pub fn allows_unproved(request: &DatabaseQuestion<'_>) -> bool {
-    request.assumes_unproved || matches!(request.question, Question::CheckEach)
+    request.assumes_unproved
+        || matches!(request.question, Question::CheckEach)
+        || is_so_far(&request.question)
+}
+
+/// Returns whether a question is about a proof so far, on which no other proof bears.
+pub fn is_so_far(question: &Question<'_>) -> bool {
+    match question {
+        Question::Proof(proof) => matches!(proof.form, ProofForm::SoFar),
+        _ => false,
+    }
 }
 
 /// Returns whether a text seems to have a byte `?` outside its comments, so that a proof may be
@@ -60,8 +71,11 @@ pub fn answer_unproved<R: AllocGlobal + Threads + Sync, O: Write, F: Write>(
     let Some(database) = read_legal_database(rt, text)? else {
         return Ok(None);
     };
-    let status = match request.question {
+    let status = match &request.question {
         Question::CheckEach => print_each(rt, text, database, output, stderr)?,
+        Question::Proof(proof) if matches!(proof.form, ProofForm::SoFar) => {
+            print_so_far(rt.alloc(), text, database, proof.label, output, stderr)?
+        }
         _ => answer_assuming(rt, request, text, database, output, stderr)?,
     };
     Ok(Some(status))

@@ -22,10 +22,10 @@ use verify::{Checker, Meter};
 
 /// A `$p` of a library: its parts.
 #[derive(Clone, Copy)]
-struct Theorem<'a> {
-    label: &'a [u8],
-    expr: &'a Words,
-    proof: &'a Words,
+pub struct Theorem<'a> {
+    pub label: &'a [u8],
+    pub expr: &'a Words,
+    pub proof: &'a Words,
 }
 
 /// The work of the proof of a `$p`, and the position of the `$p`.
@@ -133,7 +133,7 @@ fn proof_works(alloc: Global, library: &Library) -> Result<Vec<ProofWork>, Alloc
 }
 
 /// Returns the `$p` at a position, or `None` if there is no `$p`.
-fn theorem_at(statements: &[Stmt], at: usize) -> Option<Theorem<'_>>
+pub fn theorem_at(statements: &[Stmt], at: usize) -> Option<Theorem<'_>>
     ensures { IfSome result (λ theorem. stmt_at statements.now at
         ≡ Some (Stmt.Prove theorem.label.now theorem.expr.now theorem.proof.now)) }
 {

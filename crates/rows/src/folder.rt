@@ -7,6 +7,7 @@ use std::io;
 use std::rt::Files;
 use std::sync::Wait;
 use std::thread::Threads;
+use std::time::Clock;
 
 /// A run of the rows of a folder.
 #[derive(Drop)]
@@ -21,7 +22,18 @@ struct FolderRun<'a, R> {
 
 /// Runs the rows of a folder. Returns whether there is a row and all pass.
 pub fn run_folder<
-    R: AllocGlobal + Files + Print + Threads + Wait + Copy + Send + Sync + Drop + Clone + 'static,
+    R: AllocGlobal
+        + Files
+        + Print
+        + Threads
+        + Wait
+        + Clock
+        + Copy
+        + Send
+        + Sync
+        + Drop
+        + Clone
+        + 'static,
 >(rt: &R, folder: &str) -> io::Result<bool> {
     let mut run = FolderRun {
         rt,
@@ -41,7 +53,18 @@ pub fn run_folder<
 }
 
 impl<
-    R: AllocGlobal + Files + Print + Threads + Wait + Copy + Send + Sync + Drop + Clone + 'static,
+    R: AllocGlobal
+        + Files
+        + Print
+        + Threads
+        + Wait
+        + Clock
+        + Copy
+        + Send
+        + Sync
+        + Drop
+        + Clone
+        + 'static,
 > FolderRun<'_, R> {
     /// Runs the files of the folder. `names` must be empty and receives their names.
     fn run_files(&mut self, names: &mut Vec<String>) -> io::Result<()> {

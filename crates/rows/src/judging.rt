@@ -3,19 +3,20 @@ use crate::expected_output::{ExpectedOutput, PrintedOutput, compare, default_sta
 use crate::failing_streams::{FailingReader, FailingWriter};
 use crate::limited_folder::LimitedFolder;
 use crate::row::{Ending, ExpectedStderr, Row, StreamMode, Truncation};
-use program::run;
+use program::{MemoryKeeps, run};
 use sites::MemoryFolder;
 use std::alloc::{AllocError, Global};
 use std::fmt::Display;
 use std::io::Read;
 use std::sync::Wait;
 use std::thread::Threads;
+use std::time::Clock;
 
 /// How an output differs from the expected one, if it does.
 type Difference = Result<Option<String>, AllocError>;
 
 /// Returns how the row differs from what the program prints, if it does.
-pub fn judge<R: AllocGlobal + Threads + Wait + Copy + Send + Sync + Drop + 'static>(
+pub fn judge<R: AllocGlobal + Threads + Wait + Clock + Copy + Send + Sync + Drop + 'static>(
     rt: &R,
     row: &Row,
 ) -> Difference {
@@ -29,7 +30,7 @@ pub fn judge<R: AllocGlobal + Threads + Wait + Copy + Send + Sync + Drop + 'stat
 }
 
 /// Judges a row under one of its command lines.
-fn judge_command<R: AllocGlobal + Threads + Wait + Copy + Send + Sync + Drop + 'static>(
+fn judge_command<R: AllocGlobal + Threads + Wait + Clock + Copy + Send + Sync + Drop + 'static>(
     rt: &R,
     row: &Row,
     command: &[String],
@@ -63,7 +64,7 @@ struct Trial<'a, 'w, R> {
     words: &'a [&'w str],
 }
 
-impl<'a, 'w, R: AllocGlobal + Threads + Wait + Copy + Send + Sync + Drop + 'static> Trial<
+impl<'a, 'w, R: AllocGlobal + Threads + Wait + Clock + Copy + Send + Sync + Drop + 'static> Trial<
     'a,
     'w,
     R,
@@ -123,6 +124,7 @@ impl<'a, 'w, R: AllocGlobal + Threads + Wait + Copy + Send + Sync + Drop + 'stat
             &mut output,
             &mut stderr,
             &mut folder,
+            &mut MemoryKeeps::new(self.rt.alloc()),
         );
         let _ = push_files(&mut output, &folder.folder);
         PrintedOutput {
@@ -228,6 +230,7 @@ impl<'a, 'w, R: AllocGlobal + Threads + Wait + Copy + Send + Sync + Drop + 'stat
             &mut writer,
             &mut stderr,
             &mut folder,
+            &mut MemoryKeeps::new(self.rt.alloc()),
         );
         let called_again = writer.called_again;
         let printed = PrintedOutput {

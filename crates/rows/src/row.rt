@@ -37,9 +37,9 @@ pub struct Ending {
 /// The expected text on standard error.
 #[derive(Drop)]
 pub enum ExpectedStderr {
-    /// Not given: it is empty; or any text, if the output ends with a line that begins with
-    /// `refused C`, since the explanation is written there; or the line that there is no statement,
-    /// if the output is `proved 0`.
+    /// Not given: it is empty, or says that nodes recover; or any text, if the output ends with a
+    /// line that begins with `refused C` or `bad line`, since the explanation is written there; or
+    /// the line that there is no statement, if the output is `proved 0`.
     Unspecified,
     /// This text.
     Exactly(Vec<u8>),

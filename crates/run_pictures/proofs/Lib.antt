@@ -1,4 +1,5 @@
 pub mod Words
 mod StepsLemmas
-mod MarksLemmas
+mod StumpsLemmas
+mod AppendLemmas
 mod RunLemmas

@@ -1,4 +1,7 @@
 pub mod StepStart
 pub mod Steps
-pub mod Marks
+pub mod Posts
 pub mod RunView
+pub mod Labels
+pub mod Elements
+pub mod Picture

@@ -5,6 +5,7 @@
 -- history.
 -- Events and acts have variants of the same names; here those of acts are `Offering` and so on.
 use Rattle.std.specs.Prelude.{ℕ, suc, Bool, true, false, List, [], ◌∷◌, Option, Some, None, Result, Ok, length, slice_get}
+use Rattle.library.specs.declared.verdict.Verdict.{Verdict}
 use Rattle.synod.specs.declared.node.state.NodeState.{NodeState}
 use Rattle.synod.specs.declared.packet.Packet.{Packet}
 use Rattle.net.specs.declared.event.Event.{Event}
@@ -91,3 +92,14 @@ is_event_act (Applying slot verdict) = false
 -- the step is that of an event
 abbrev pub is_event : Step → Bool
 is_event s = is_event_act s.act
+
+-- the step in which node k, whose log has `log_len` entries, applies the entry of a slot
+abbrev pub application_of : ℕ → ℕ → ℕ → Verdict → Step
+application_of k log_len slot verdict = record {
+  node = k;
+  act = Applying slot verdict;
+  first_post = 0;
+  end_post = 0;
+  log_len_before = log_len;
+  log_len_after = log_len;
+}

@@ -1,25 +1,33 @@
-//! Draws the marks of a run as a picture.
-ghost use Rattle.std.specs.Prelude.{◌≡◌, ◌<◌, ◌≤◌, Err, length, IsOkUnless};
-ghost use Rattle.timelines.specs.declared.grid.TheConstants.{MAX_ROWS};
-ghost use Rattle.run_pictures.specs.Marks.{shown_of};
+//! Draws some steps of a run as a picture.
+ghost use Rattle.std.specs.Prelude.{◌≡◌, ◌<◌, ◌≤◌, ◌+◌, ◌++◌, Err, codes, length, max, filter, IfOk, OnOk, IsOkUnless};
+ghost use Rattle.run_pictures.specs.Elements.{row_y};
+ghost use Rattle.run_pictures.specs.Picture.{each_row, longest_of, node_elements, picture_of};
+ghost use Rattle.run_pictures.specs.Picture.{picture_start, row_length, row_lines, row_points, row_text};
+ghost use Rattle.run_pictures.specs.Posts.{max_rows, shown_of};
+ghost use Rattle.run_pictures.specs.RunView.{packets_of};
+ghost use Rattle.run_pictures.specs.Steps.{is_event, steps_of};
 ghost use Rattle.run_pictures.specs.declared.drawing.PictureFault.TheVariants.{Memory};
 ghost use Rattle.run_pictures.specs.declared.drawing.PictureFault.TheVariants.{TooManySteps};
 
-use crate::labels::{learned_note, packet_label, packet_title, step_label};
-use crate::mark::{ArrowStart, Mark, StepPoint};
+use crate::elements::{push_node, push_two_numbered};
+use crate::grid::{picture_width, row_y};
+use crate::rows::{push_row_lines, push_row_points, push_row_text};
 use crate::run::Run;
-use crate::step::{Act, Step};
+use crate::step::Step;
 use crate::step_range::StepRange;
-use library::Verdict;
+use crate::stumps::stumps_of_step;
+use crate::style::style;
 use std::alloc::{AllocError, Global};
 use synod::Weights;
-use timelines::{GridPoint, MAX_ROWS, PointStyle, Timeline};
 use world::World;
+
+/// The greatest number of steps that a picture shows.
+const MAX_ROWS: usize = 200;
 
 /// Why a run has no picture.
 #[derive(Clone, Copy, Debug, PartialEq, Eq)]
 pub enum PictureFault {
-    /// More than `MAX_ROWS` steps are to be shown.
+    /// More than 200 steps are to be shown.
     TooManySteps,
     /// An allocation failed.
     Memory,
@@ -33,177 +41,166 @@ impl From<AllocError> for PictureFault {
     }
 }
 
-/// The shown steps, and the world after the run.
-#[derive(Clone, Copy)]
-struct ShownSteps<'a> {
-    world: &'a World,
-    shown: &'a [Step],
-    /// The index in the run of the first shown step.
-    from: usize,
+/// The layers of a picture, one drawn above the other, and how many characters its longest text
+/// shows.
+#[derive(Drop)]
+struct Layers {
+    /// Arrows, stumps and breaks.
+    lines: Vec<u8>,
+    /// Points, and the numbers of stumps.
+    points: Vec<u8>,
+    texts: Vec<u8>,
+    longest: u32,
 }
 
-/// Returns a picture, in SVG, of the marks of a range of steps. `weights` are those with which the
-/// run was made; only their number matters.
+/// Returns a picture, in SVG, of a range of the steps of a run, with the lines of as many nodes as
+/// there are weights. The recorded steps of events are exactly those of the events in the history,
+/// in order (`events`).
 ///
-/// Errors: `TooManySteps` if more than `MAX_ROWS` steps are to be shown, else `Memory` if an
-/// allocation fails. Cost: that of `Run::marks`, and the size of the picture.
+/// Errors: `TooManySteps` if more than 200 steps are to be shown, else `Memory` if an allocation
+/// fails. Cost: the size of the picture, and a scan of the shown steps for each packet that one of
+/// them posts or delivers.
 pub fn draw(
     alloc: Global,
     weights: Weights,
     run: &Run,
     range: StepRange,
 ) -> Result<Vec<u8>, PictureFault>
-    ensures too_many_steps { MAX_ROWS < length (shown_of run.now.steps range.from range.count)
+    ensures picture { IfOk result (λ svg. svg.items ≡ picture_of (length weights) run.now.world
+        range.from (shown_of run.now.steps range.from range.count)) }
+    ensures events { filter is_event run.now.steps ≡ steps_of run.now.world.history }
+    ensures too_many_steps { max_rows < length (shown_of run.now.steps range.from range.count)
         → result ≡ Err TooManySteps }
-    ensures only_memory { length (shown_of run.now.steps range.from range.count) ≤ MAX_ROWS
+    ensures only_memory { length (shown_of run.now.steps range.from range.count) ≤ max_rows
         → IsOkUnless result Memory }
 {
     let shown = run.shown(range);
-    if shown.len() as u64 > MAX_ROWS {
+    if shown.len() > MAX_ROWS {
         return Err(PictureFault::TooManySteps);
     }
-    let steps = ShownSteps {
-        world: run.world(),
-        shown,
-        from: range.from,
+    Ok(picture(alloc, weights.count(), run.world(), range.from, shown)?)
+}
+
+/// Returns the picture of some steps; `from` is the index in the run of the first one.
+fn picture(
+    alloc: Global,
+    nodes: u8,
+    world: &World,
+    from: usize,
+    shown: &[Step],
+) -> Result<Vec<u8>, AllocError>
+    requires { length shown.now ≤ max_rows }
+    ensures { IfOk result (λ svg. svg.items ≡ picture_of nodes world.now from shown.now) }
+{
+    let mut layers = Layers {
+        lines: Vec::new(alloc),
+        points: Vec::new(alloc),
+        texts: Vec::new(alloc),
+        longest: 0,
     };
-    let marks = run.marks(alloc, range)?;
-    Ok(picture_of(alloc, weights, steps, marks.as_slice())?)
+    push_rows(&mut layers, world, shown, from, 0, shown)?;
+    let bottom = row_y(shown.len() as u8);
+    let mut svg = Vec::new(alloc);
+    push_start(&mut svg, picture_width(nodes, layers.longest), bottom)?;
+    push_nodes(&mut svg, bottom, nodes)?;
+    push_layers(&mut svg, &layers)?;
+    Ok(svg)
 }
 
-/// Returns the picture of some marks.
-fn picture_of(
-    alloc: Global,
-    weights: Weights,
-    steps: ShownSteps<'_>,
-    marks: &[Mark],
-) -> Result<Vec<u8>, AllocError> {
-    let mut timeline = Timeline::new(alloc, weights.count());
-    draw_marks(alloc, &mut timeline, steps, marks)?;
-    timeline.into_svg(alloc)
+/// Appends the steps of `rest`, the shown ones from `row` on.
+fn push_rows(
+    layers: &mut Layers,
+    world: &World,
+    shown: &[Step],
+    from: usize,
+    row: u8,
+    rest: &[Step],
+) -> Result<(), AllocError>
+    requires few { length shown.now ≤ max_rows }
+    requires within { row + length rest.now ≤ max_rows }
+    ensures lines { OnOk result (layers.new.lines.items ≡ layers.old.lines.items
+        ++ each_row (row_lines (packets_of world.now) shown.now) row rest.now) }
+    ensures points { OnOk result (layers.new.points.items ≡ layers.old.points.items
+        ++ each_row (row_points (packets_of world.now) shown.now) row rest.now) }
+    ensures texts { OnOk result (layers.new.texts.items ≡ layers.old.texts.items
+        ++ each_row (row_text world.now from) row rest.now) }
+    ensures longest { OnOk result
+        (layers.new.longest ≡ max layers.old.longest (longest_of world.now rest.now)) }
+{
+    match rest {
+        [first, others @ ..] => {
+            push_row(layers, world, shown, from, row, *first)?;
+            push_rows(layers, world, shown, from, row + 1, others)
+        }
+        [] => Ok(()),
+    }
 }
 
-/// Draws some marks.
-fn draw_marks(
-    alloc: Global,
-    timeline: &mut Timeline,
-    steps: ShownSteps<'_>,
-    marks: &[Mark],
-) -> Result<(), AllocError> {
-    for mark in marks {
-        draw_mark(alloc, timeline, steps, *mark)?;
+/// Appends the step in a row.
+fn push_row(
+    layers: &mut Layers,
+    world: &World,
+    shown: &[Step],
+    from: usize,
+    row: u8,
+    step: Step,
+) -> Result<(), AllocError>
+    requires { length shown.now ≤ max_rows }
+    ensures lines { OnOk result (layers.new.lines.items
+        ≡ layers.old.lines.items ++ row_lines (packets_of world.now) shown.now row step) }
+    ensures points { OnOk result (layers.new.points.items
+        ≡ layers.old.points.items ++ row_points (packets_of world.now) shown.now row step) }
+    ensures texts { OnOk result
+        (layers.new.texts.items ≡ layers.old.texts.items ++ row_text world.now from row step) }
+    ensures longest { OnOk result
+        (layers.new.longest ≡ max layers.old.longest (row_length world.now step)) }
+{
+    let stumps = stumps_of_step(*layers.lines.allocator(), world, shown, step)?;
+    push_row_lines(
+        &mut layers.lines,
+        world,
+        shown,
+        row,
+        step,
+        stumps.as_slice(),
+    )?;
+    push_row_points(&mut layers.points, row, step, stumps.as_slice())?;
+    let characters = push_row_text(&mut layers.texts, world, from, row, step)?;
+    layers.longest = layers.longest.max(characters);
+    Ok(())
+}
+
+/// Appends the start of a picture of a width and a height, with its style.
+fn push_start(svg: &mut Vec<u8>, width: u64, height: u64) -> Result<(), AllocError>
+    ensures { OnOk result (svg.new.items ≡ svg.old.items ++ picture_start width height) }
+{
+    push_two_numbered(
+        svg,
+        b"<svg xmlns=\"http://www.w3.org/2000/svg\" width=\"",
+        width,
+        b"\" height=\"",
+        height,
+    )?;
+    svg.extend_from_slice(style())
+}
+
+/// Appends the lines of nodes, down to `bottom`.
+fn push_nodes(svg: &mut Vec<u8>, bottom: u64, nodes: u8) -> Result<(), AllocError>
+    ensures { OnOk result (svg.new.items ≡ svg.old.items ++ node_elements bottom nodes) }
+{
+    for node in 0..nodes {
+        push_node(svg, bottom, node)?;
     }
     Ok(())
 }
 
-/// Draws a mark.
-fn draw_mark(
-    alloc: Global,
-    timeline: &mut Timeline,
-    steps: ShownSteps<'_>,
-    mark: Mark,
-) -> Result<(), AllocError> {
-    match mark {
-        Mark::Point { at } => draw_point(alloc, timeline, steps, at),
-        Mark::Break { at } => timeline.push_break(grid_point(at)),
-        Mark::Learned { first, end, .. } => draw_learned(alloc, timeline, first, end),
-        Mark::Arrow { packet, from, to } => draw_arrow(alloc, timeline, steps, packet, from, to),
-        Mark::Stump { packet, to, .. } => draw_stump(alloc, timeline, steps, packet, to),
-    }
-}
-
-/// Draws the point of a step, with its label.
-fn draw_point(
-    alloc: Global,
-    timeline: &mut Timeline,
-    steps: ShownSteps<'_>,
-    at: StepPoint,
-) -> Result<(), AllocError> {
-    let Some(step) = steps.shown.get(at.row) else {
-        return Ok(());
-    };
-    let number = steps.from.saturating_add(at.row) as u64;
-    let label = step_label(alloc, steps.world, step.act)?;
-    timeline.push_row(at.node, style(step.act), number, label.as_slice())
-}
-
-/// Writes the note of the slots that a node learned.
-fn draw_learned(
-    alloc: Global,
-    timeline: &mut Timeline,
-    first: u32,
-    end: u32,
-) -> Result<(), AllocError> {
-    let note = learned_note(alloc, first, end)?;
-    timeline.push_note(note.as_slice())
-}
-
-/// Draws the arrow of a packet.
-fn draw_arrow(
-    alloc: Global,
-    timeline: &mut Timeline,
-    steps: ShownSteps<'_>,
-    number: u64,
-    from: ArrowStart,
-    to: StepPoint,
-) -> Result<(), AllocError> {
-    let Ok(packet) = steps.world.packet(number) else {
-        return Ok(());
-    };
-    let label = packet_label(alloc, packet)?;
-    timeline.push_arrow(grid_start(from), grid_point(to), label.as_slice())
-}
-
-/// Draws the stump of a packet of the step that was drawn last.
-fn draw_stump(
-    alloc: Global,
-    timeline: &mut Timeline,
-    steps: ShownSteps<'_>,
-    number: u64,
-    to: u8,
-) -> Result<(), AllocError> {
-    let Ok(packet) = steps.world.packet(number) else {
-        return Ok(());
-    };
-    let title = packet_title(alloc, packet)?;
-    timeline.push_stump(to, number, title.as_slice())
-}
-
-/// Returns where the point of a step is drawn.
-fn grid_point(point: StepPoint) -> GridPoint {
-    GridPoint {
-        node: point.node,
-        row: Some(grid_row(point.row)),
-    }
-}
-
-/// Returns where the beginning of an arrow is drawn.
-fn grid_start(from: ArrowStart) -> GridPoint {
-    GridPoint {
-        node: from.node,
-        row: from.row.map(grid_row),
-    }
-}
-
-/// Returns a row as a `GridPoint` has it.
-fn grid_row(row: usize) -> u32 {
-    u32::try_from(row).unwrap_or(u32::MAX)
-}
-
-/// Returns the style of the point of an act: `Good` (green) if an entry is applied and added, `Bad`
-/// (red) if it is refused, else `Plain`.
-fn style(act: Act) -> PointStyle {
-    match act {
-        Act::Apply { verdict, .. } => verdict_style(verdict),
-        _ => PointStyle::Plain,
-    }
-}
-
-/// Returns the style of the point of an application with a verdict.
-fn verdict_style(verdict: Verdict) -> PointStyle {
-    match verdict {
-        Verdict::Added => PointStyle::Good,
-        Verdict::Refused(_) => PointStyle::Bad,
-        _ => PointStyle::Plain,
-    }
+/// Appends the layers of a picture, and its end.
+fn push_layers(svg: &mut Vec<u8>, layers: &Layers) -> Result<(), AllocError>
+    ensures { OnOk result (svg.new.items ≡ svg.old.items ++ (layers.now.lines.items
+        ++ layers.now.points.items ++ layers.now.texts.items ++ codes "</svg>\n")) }
+{
+    svg.extend_from_slice(layers.lines.as_slice())?;
+    svg.extend_from_slice(layers.points.as_slice())?;
+    svg.extend_from_slice(layers.texts.as_slice())?;
+    svg.extend_from_slice(b"</svg>\n")
 }

@@ -1,22 +1,20 @@
 //! A world whose steps are recorded.
-ghost use Rattle.std.specs.Prelude.{◌≡◌, ◌≤◌, ◌<◌, [], false, length, slice_get, filter, IfOk};
-ghost use Rattle.std.specs.Prelude.{IfErr, IsErr, OnOk, OnErr, IsOkUnless};
+ghost use Rattle.std.specs.Prelude.{◌≡◌, ◌≤◌, ◌<◌, [], length, slice_get, filter, IfOk, IfErr};
+ghost use Rattle.std.specs.Prelude.{IsErr, OnOk, OnErr, IsOkUnless};
 ghost use Rattle.net.specs.History.{with_event, world_of};
 ghost use Rattle.net.specs.World.{packets_after};
 ghost use Rattle.net.specs.declared.fault.StepFault.TheVariants.{Memory};
 ghost use Rattle.world.specs.Carried.{value_event, carried_size};
-ghost use Rattle.world.specs.WorldView.{new_world};
-ghost use Rattle.timelines.specs.declared.grid.TheConstants.{MAX_ROWS};
-ghost use Rattle.run_pictures.specs.Steps.{act_of, step_start_of, is_event, learned_by};
-ghost use Rattle.run_pictures.specs.Steps.{node_of_step, receiver_of, steps_of};
+ghost use Rattle.world.specs.WorldView.{new_world, next_entry};
+ghost use Rattle.run_pictures.specs.RunView.{AppliesOrNot};
+ghost use Rattle.run_pictures.specs.Steps.{act_of, application_of, is_event, learned_by};
+ghost use Rattle.run_pictures.specs.Steps.{node_of_step, receiver_of, step_start_of, steps_of};
 
-use crate::mark::Mark;
-use crate::marks::collect_marks;
 use crate::step::{Act, Step, StepStart};
 use crate::step_range::{StepRange, shown};
 use library::{Entry, Verdict};
 use net::{Event, StepFault};
-use std::alloc::{AllocError, Global};
+use std::alloc::Global;
 use std::marker::Model;
 use synod::Weights;
 use world::World;
@@ -42,9 +40,8 @@ impl Model for Run {
 }
 
 impl Run {
-    ghost use Rattle.world.specs.WorldView.{after_event};
-    ghost use Rattle.run_pictures.specs.RunView.{RunView, packets_of};
-    ghost use Rattle.run_pictures.specs.Marks.{marks_of, shown_of};
+    ghost use Rattle.run_pictures.specs.RunView.{RunView, RecordsNext, RecordsEvent};
+    ghost use Rattle.run_pictures.specs.Posts.{shown_of};
 
     /// Makes a run of new nodes, without steps. The nodes take at most `event_limit` events;
     /// `work_limit` is the greatest work that an entry may count, if there is a limit.
@@ -72,8 +69,7 @@ impl Run {
     /// before `EventsSpent`; the run is then unchanged.
     #[tactic(auto, using(crate::proofs::RunLemmas::event_recorded, crate::proofs::RunLemmas::same_recorded))]
     pub fn step(&mut self, event: Event<Entry>) -> Result<(), StepFault>
-        ensures taken { OnOk result
-            (self.new.world ≡ after_event self.old.world (value_event event)) }
+        ensures taken { OnOk result (RecordsEvent self.old (value_event event) self.new) }
         ensures refused { IfErr
             (world_of carried_size (with_event self.old.world.history (value_event event)))
             (λ fault. IsErr result) }
@@ -94,16 +90,20 @@ impl Run {
     /// Errors: those of `World::apply_next`, or `Memory`; the run is then unchanged.
     #[tactic(auto, using(crate::proofs::RunLemmas::application_recorded, crate::proofs::RunLemmas::same_recorded))]
     pub fn apply_next(&mut self, k: u8) -> Result<(), StepFault>
+        ensures applied { OnOk result
+            (RecordsNext self.old k (next_entry self.old.world k) self.new) }
+        ensures no_node { length self.old.world.history.weights ≤ k → IsErr result }
         ensures same { OnErr result (self.new ≡ self.old) }
         ensures same_history { self.new.world.history ≡ self.old.world.history }
     {
         self.steps.reserve(1)?;
         let slot = self.world.applied(k)?;
         let log_len = self.world.state(k)?.log_len;
-        if let Some(verdict) = apply_on(&mut self.world, k)? {
-            self.steps
-                .push_reserved(application_step(k, log_len, slot, verdict));
-        }
+        let Some(verdict) = apply_on(&mut self.world, k)? else {
+            return Ok(());
+        };
+        self.steps
+            .push_reserved(application_step(k, log_len, slot, verdict));
         Ok(())
     }
 
@@ -114,25 +114,13 @@ impl Run {
         &self.world
     }
 
-    /// Returns the steps of a range.
+    /// Returns the steps of a range. The recorded steps of events are exactly those of the events in
+    /// the history, in order (`events`).
     pub fn shown(&self, range: StepRange) -> &[Step]
-        ensures { result.now ≡ shown_of self.now.steps range.from range.count }
-    {
-        shown(self.steps.as_slice(), range)
-    }
-
-    /// Returns the marks of a range, which are all that a picture shows of it. The recorded steps
-    /// of events are exactly those of the events in the history, in order (`events`).
-    ///
-    /// Errors: an allocation fails. Cost: a scan of the shown steps for each packet that one of
-    /// them posts or delivers.
-    pub fn marks(&self, alloc: Global, range: StepRange) -> Result<Vec<Mark>, AllocError>
-        requires { length (shown_of self.now.steps range.from range.count) ≤ MAX_ROWS }
-        ensures marks { IfOk result (λ marks. marks.items ≡ marks_of
-            (packets_of self.now.world) (shown_of self.now.steps range.from range.count)) }
+        ensures shown { result.now ≡ shown_of self.now.steps range.from range.count }
         ensures events { filter is_event self.now.steps ≡ steps_of self.now.world.history }
     {
-        collect_marks(alloc, &self.world, self.shown(range))
+        shown(self.steps.as_slice(), range)
     }
 }
 
@@ -142,8 +130,8 @@ impl Run {
 /// Errors: `NoNode` if there is no such node.
 fn step_start(world: &World, posted: u64, event: &Event<Entry>) -> Result<StepStart, StepFault>
     requires { posted ≡ length (packets_after (world_of carried_size world.now.history)) }
-    ensures start { IfOk result (λ start. start
-        ≡ step_start_of (length world.now.history.events) (world_of carried_size world.now.history) (value_event event.now)) }
+    ensures start { IfOk result (λ start. start ≡ step_start_of (length world.now.history.events)
+        (world_of carried_size world.now.history) (value_event event.now)) }
     ensures node { IfOk result (λ start. start.node < length world.now.history.weights) }
 {
     let node = node_of(world, event);
@@ -201,8 +189,10 @@ fn log_len_at(world: &World, k: u8) -> u32
     }
 }
 
-/// Calls `World::apply_next`, with only those of its clauses that `Run::apply_next` needs.
+/// Calls `World::apply_next`, and states of each answer what it was given for.
 fn apply_on(world: &mut World, k: u8) -> Result<Option<Verdict>, StepFault>
+    ensures applied { IfOk result
+        (λ answer. AppliesOrNot world.old k (next_entry world.old k) answer world.new) }
     ensures same_history { world.new.history ≡ world.old.history }
     ensures same { OnErr result (world.new ≡ world.old) }
 {
@@ -211,7 +201,7 @@ fn apply_on(world: &mut World, k: u8) -> Result<Option<Verdict>, StepFault>
 
 /// Returns the step in which a node, whose log has `log_len` entries, applies the entry of a slot.
 fn application_step(node: u8, log_len: u32, slot: u32, verdict: Verdict) -> Step
-    ensures { is_event result ≡ false }
+    ensures { result ≡ application_of node log_len slot verdict }
 {
     Step {
         node,

@@ -1,6 +1,6 @@
 //! The range of the steps of a run that a picture shows.
 ghost use Rattle.std.specs.Prelude.{◌≡◌, take, drop};
-ghost use Rattle.run_pictures.specs.Marks.{shown_of};
+ghost use Rattle.run_pictures.specs.Posts.{shown_of};
 
 use crate::step::Step;
 

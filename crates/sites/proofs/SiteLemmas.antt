@@ -1,5 +1,5 @@
 -- The files of a site, written one after another.
-use Rattle.sites.proofs.Words.{◌≡◌, ℕ, suc, ◌+◌, ◌<◌, ◌≤◌, List, [], ◌∷◌, ◌++◌, length, take, get_or, slice_get, Some, option_map, Result, Ok, Err, OnOk, sym, ◌∙◌, ap, subst, refl, arith, append_assoc, append-nil, take_more, length-take-le, HasAssertion, Database, Stmt, Axiom, Open, Name, bare, bares, stmt_at, stmt_at-bares, WritesNamed, page_file, page_files}
+use Rattle.sites.proofs.Words.{◌≡◌, ℕ, suc, ◌+◌, ◌<◌, ◌≤◌, List, [], ◌∷◌, ◌++◌, length, take, get_or, slice_get, Some, option_map, Result, Ok, Err, OnOk, sym, ◌∙◌, ap, subst, refl, arith, append_assoc, append-nil, take_more, length-take-le, HasAssertion, Database, Stmt, Axiom, Open, Name, bare, bares, stmt_at, stmt_at-bares, WritesNamed, WritesFiles, page_file, page_files, zero, Bool, map, IndexPage, file_of, index_files, items_of, WritesSite, STYLE_SHEET, codes}
 
 -- ---- files, one after another
 
@@ -8,16 +8,25 @@ pub writes-then : {F : Type 0} (writes : F → List ℕ → List ℕ → F → T
 writes-then writes old mid new [] more w v = subst (λ f. WritesNamed writes f more new) (sym w) v
 writes-then writes old mid new (name ∷ names) more w v = (w.0, w.1, w.2, writes-then writes w.1 mid new names more w.3 v)
 
-pub writes-one : {F : Type 0} (writes : F → List ℕ → List ℕ → F → Type 0) (old new : F) (name bytes : List ℕ) → writes old name bytes new → WritesNamed writes old (name ∷ []) new
+writes-one : {F : Type 0} (writes : F → List ℕ → List ℕ → F → Type 0) (old new : F) (name bytes : List ℕ) → writes old name bytes new → WritesNamed writes old (name ∷ []) new
 writes-one writes old new name bytes g = (bytes, new, g, refl)
 
+pub named-one : {F T E : Type 0} (writes : F → List ℕ → List ℕ → F → Type 0) (old new : F) (name bytes : List ℕ) (r : Result T E)
+    → OnOk r (writes old name bytes new) → OnOk r (WritesNamed writes old (name ∷ []) new)
+named-one writes old new name bytes (Ok u) g = writes-one writes old new name bytes g
+named-one writes old new name bytes (Err e) g = tt
+
 -- the style sheet, the pages, and the index
-pub site-written : {F E : Type 0} (writes : F → List ℕ → List ℕ → F → Type 0) (opened first last new : F) (style index : List ℕ) (pages : List (List ℕ)) (r : Result (Unit {0}) E)
-    → WritesNamed writes opened (style ∷ []) first → WritesNamed writes first pages last → OnOk r (WritesNamed writes last (index ∷ []) new)
-    → OnOk r ((x : F) × WritesNamed writes x (style ∷ (pages ++ index ∷ [])) new)
-site-written writes opened first last new style index pages (Ok u) w v h =
-    (opened, writes-then writes opened first new (style ∷ []) (pages ++ index ∷ []) w (writes-then writes first last new pages (index ∷ []) v h))
-site-written writes opened first last new style index pages (Err e) w v h = tt
+pub site-written : {F T E : Type 0} (writes : F → List ℕ → List ℕ → F → Type 0) (opened styled paged new : F) (S : Database) (marks : List Bool) (text : List ℕ) (r : Result T E)
+    → writes opened (codes "style.css") STYLE_SHEET.now styled → WritesNamed writes styled (page_files 1 S) paged
+    → OnOk r (WritesFiles writes paged (index_files S marks (items_of text)) new) → OnOk r (WritesSite writes S marks text new)
+site-written writes opened styled paged new S marks text (Ok u) style pages index = record { opened = opened; styled = styled; paged = paged; style = style; pages = pages; index = index }
+site-written writes opened styled paged new S marks text (Err e) style pages index = tt
+
+-- one file, and then the others
+pub files_on : {F : Type 0} (writes : F → List ℕ → List ℕ → F → Type 0) (old mid last : F) (page : IndexPage) (others rest : List IndexPage)
+    → rest ≡ page ∷ others → writes old page.name.items page.bytes.items mid → WritesFiles writes mid (map file_of others) last → WritesFiles writes old (map file_of rest) last
+files_on writes old mid last page others rest is g w = subst (λ r. WritesFiles writes old (map file_of r) last) (sym is) (mid, g, w)
 
 -- ---- the pages of the first statements
 

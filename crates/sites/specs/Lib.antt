@@ -2,3 +2,4 @@ pub mod SiteFiles
 pub mod References
 pub mod PassState
 pub mod Written
+pub mod Progress

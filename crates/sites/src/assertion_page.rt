@@ -8,7 +8,7 @@ use crate::CrossReferences;
 use crate::site::{SiteFault, SiteSources};
 use mm_lex::Span;
 use mm_read::Stmt;
-use proof_pages::{PageContents, ProofSteps, RelatedItems, write_site_page};
+use proof_pages::{PageContents, ProofSteps, RelatedItems, Typecodes, write_site_page};
 use std::alloc::{AllocError, Global};
 use steps::{essential_table, proof_table};
 
@@ -17,6 +17,8 @@ use steps::{essential_table, proof_table};
 pub struct PageSources<'a> {
     pub site: &'a SiteSources<'a>,
     pub references: CrossReferences,
+    /// The CSS classes of the typecodes of the library.
+    pub typecodes: Typecodes,
     /// For each statement, in order, the span of its description in the text.
     pub descriptions: Vec<Option<Span>>,
 }
@@ -90,11 +92,13 @@ fn push_assertion_page(
     let contents = PageContents {
         statements: library.statements(),
         frames: library.frames(),
+        typecodes: &sources.typecodes,
         at,
         proof,
         related: RelatedItems {
             axioms: axioms.as_slice(),
             cited_by: cited_by.as_slice(),
+            is_unproved: sources.site.is_unproved,
             description: description_at(sources, index),
         },
     };

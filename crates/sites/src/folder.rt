@@ -11,6 +11,8 @@ pub enum FolderFault {
     Memory,
     /// The folder or the file cannot be created or written.
     Refused,
+    /// A file that a run left unfinished when it was ended is in the way.
+    Unfinished,
 }
 
 impl From<AllocError> for FolderFault {
@@ -43,8 +45,8 @@ pub trait Folder {
     /// Writes a file with this name and these bytes into the folder. A folder of the file system
     /// replaces a file of that name; a folder in memory keeps both.
     ///
-    /// Errors: `Memory`, `Refused`. After an error no file of that name holds only a part of these
-    /// bytes. Cost: the number of bytes.
+    /// Errors: `Memory`, `Refused`, `Unfinished`. After an error no file of that name holds only a
+    /// part of these bytes. Cost: the number of bytes.
     fn write(&mut self, name: &str, bytes: &[u8]) -> Result<(), FolderFault>
         ensures { OnOk result (writes self.old name.now bytes.now self.new) };
 }

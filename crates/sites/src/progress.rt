@@ -1,17 +1,17 @@
 //! Prints the progress of a site with many pages.
+ghost use Rattle.std.specs.Prelude.{◌≡◌, ◌++◌, ◌<◌, OnOk};
+ghost use Rattle.sites.specs.Progress.{grouped, grouped_thousands, is_silent, progress_line};
+ghost use Rattle.sites.specs.Progress.{three_digits};
+
 use std::alloc::{AllocError, Global};
 use std::io::Write;
 use text::push_number;
 
-/// The least number of pages for which progress is printed.
-const MIN_PAGES_FOR_PROGRESS: u64 = 5_000;
-
 /// Prints how many of `total` pages are written, at each multiple of `total / 10` (rounded down)
-/// below `total`; nothing if `total` is below `MIN_PAGES_FOR_PROGRESS`. A line that cannot be
-/// allocated or written is dropped.
+/// below `total`, if `total` is at least 5,000. A line that cannot be allocated or written is
+/// dropped.
 pub fn print_progress<F: Write>(alloc: Global, progress: &mut F, written: u64, total: u64) {
-    let tenth = total / 10;
-    if total < MIN_PAGES_FOR_PROGRESS || tenth == 0 || written % tenth != 0 || written == total {
+    if is_silent(written, total) {
         return;
     }
     let mut line = Vec::new(alloc);
@@ -20,8 +20,17 @@ pub fn print_progress<F: Write>(alloc: Global, progress: &mut F, written: u64, t
     }
 }
 
+/// Returns whether no line is printed.
+fn is_silent(written: u64, total: u64) -> bool
+    ensures { result ≡ is_silent written total }
+{
+    total < 5_000 || written % (total / 10) != 0 || written == total
+}
+
 /// Appends `N of M pages`.
-fn push_progress(line: &mut Vec<u8>, written: u64, total: u64) -> Result<(), AllocError> {
+fn push_progress(line: &mut Vec<u8>, written: u64, total: u64) -> Result<(), AllocError>
+    ensures { OnOk result (line.new.items ≡ line.old.items ++ progress_line written total) }
+{
     push_grouped(line, written)?;
     line.extend_from_slice(b" of ")?;
     push_grouped(line, total)?;
@@ -29,7 +38,9 @@ fn push_progress(line: &mut Vec<u8>, written: u64, total: u64) -> Result<(), All
 }
 
 /// Appends a number below 1,000,000,000 with a comma between groups of three digits.
-fn push_grouped(line: &mut Vec<u8>, number: u64) -> Result<(), AllocError> {
+fn push_grouped(line: &mut Vec<u8>, number: u64) -> Result<(), AllocError>
+    ensures { OnOk result (line.new.items ≡ line.old.items ++ grouped number) }
+{
     if number < 1_000 {
         return push_number(line, number);
     }
@@ -39,7 +50,9 @@ fn push_grouped(line: &mut Vec<u8>, number: u64) -> Result<(), AllocError> {
 }
 
 /// Appends the digits before the last three, grouped.
-fn push_grouped_thousands(line: &mut Vec<u8>, thousands: u64) -> Result<(), AllocError> {
+fn push_grouped_thousands(line: &mut Vec<u8>, thousands: u64) -> Result<(), AllocError>
+    ensures { OnOk result (line.new.items ≡ line.old.items ++ grouped_thousands thousands) }
+{
     if thousands < 1_000 {
         return push_number(line, thousands);
     }
@@ -49,7 +62,9 @@ fn push_grouped_thousands(line: &mut Vec<u8>, thousands: u64) -> Result<(), Allo
 }
 
 /// Appends the last three digits of a number.
-fn push_three_digits(line: &mut Vec<u8>, number: u64) -> Result<(), AllocError> {
+fn push_three_digits(line: &mut Vec<u8>, number: u64) -> Result<(), AllocError>
+    ensures { OnOk result (line.new.items ≡ line.old.items ++ three_digits number) }
+{
     push_number(line, number / 100 % 10)?;
     push_number(line, number / 10 % 10)?;
     push_number(line, number % 10)

@@ -1,22 +1,25 @@
 //! Writes the files of a site.
 ghost use Rattle.std.specs.Prelude.{◌≡◌, ℕ, ◌+◌, ◌<◌, ◌∷◌, [], length, get_or, option_map, codes};
-ghost use Rattle.std.specs.Prelude.{OnOk};
+ghost use Rattle.std.specs.Prelude.{map, OnOk};
+ghost use Rattle.markup.specs.IndexItems.{items_of};
+ghost use Rattle.markup.specs.Pages.{file_of, index_files};
 ghost use Rattle.mm_read.specs.declared.stmt.Stmt.TheVariants.{Open};
 ghost use Rattle.sites.specs.SiteFiles.{WritesNamed, page_file_of_label, page_file, page_files};
-ghost use Rattle.sites.specs.SiteFiles.{site_files};
+ghost use Rattle.sites.specs.SiteFiles.{WritesFiles, WritesSite};
 
 use crate::assertion_page::{PageSources, push_page};
 use crate::progress::print_progress;
 use crate::{Folder, FolderFault, cross_references};
 use library::{AskFault, Library};
+use markup::{IndexPage, IndexSources, index_items, index_pages};
 use mm_lex::Word;
 use mm_read::Stmt;
 use places::descriptions;
-use proof_pages::{WriteFault, style_sheet, write_index};
+use proof_pages::{Typecodes, WriteFault, style_sheet};
 use std::alloc::{AllocError, Global};
 use std::io::Write;
 use std::str::from_utf8;
-use text::{INDEX_FILE, STYLE_FILE, push_file_name};
+use text::{STYLE_FILE, push_file_name};
 
 /// The sources of a site: a library, and the text that it was read from.
 #[derive(Drop)]
@@ -25,6 +28,9 @@ pub struct SiteSources<'a> {
     /// it and its first token. No clause requires that the text reads as the library's statements.
     pub text: &'a [u8],
     pub library: &'a Library,
+    /// For each statement whether it is a theorem that is not proved and was taken as a `$a`; a
+    /// statement without a mark is none.
+    pub is_unproved: &'a [bool],
 }
 
 /// The reason that a site is not written completely.
@@ -36,6 +42,8 @@ pub enum SiteFault {
     Folder,
     /// The file with this name cannot be written.
     File(Vec<u8>),
+    /// A file that a run left unfinished when it was ended is in the way.
+    Unfinished,
 }
 
 impl From<AllocError> for SiteFault {
@@ -71,13 +79,13 @@ pub fn write_site<F: Write, S: Folder>(
     folder: &mut S,
     progress: &mut F,
 ) -> Result<(), SiteFault>
-    ensures { OnOk result ((opened : S) × WritesNamed S.writes opened
-        (site_files site.now.library.now.replica.statements) folder.new) }
+    ensures { OnOk result (WritesSite S.writes site.now.library.now.replica.statements
+        site.now.is_unproved.now site.now.text.now folder.new) }
 {
     open_folder(path, folder)?;
     write_file(alloc, folder, STYLE_FILE.as_bytes(), style_sheet())?;
     write_pages(alloc, site, folder, progress)?;
-    write_index_page(alloc, site.library, folder)
+    write_index_pages(alloc, site, folder)
 }
 
 /// Opens the folder at a path.
@@ -86,20 +94,45 @@ fn open_folder<S: Folder>(path: &str, folder: &mut S) -> Result<(), SiteFault> {
         Ok(()) => Ok(()),
         Err(FolderFault::Memory) => Err(SiteFault::Memory),
         Err(FolderFault::Refused) => Err(SiteFault::Folder),
+        Err(FolderFault::Unfinished) => Err(SiteFault::Unfinished),
     }
 }
 
-/// Writes the index of all assertions.
-fn write_index_page<S: Folder>(
+/// Writes the pages of the index.
+fn write_index_pages<S: Folder>(
     alloc: Global,
-    library: &Library,
+    site: &SiteSources<'_>,
     folder: &mut S,
 ) -> Result<(), SiteFault>
-    ensures { OnOk result (WritesNamed S.writes folder.old (codes "index.html" ∷ []) folder.new) }
+    ensures { OnOk result (WritesFiles S.writes folder.old
+        (index_files site.now.library.now.replica.statements site.now.is_unproved.now (items_of site.now.text.now))
+        folder.new) }
 {
-    let mut page = Vec::new(alloc);
-    write_index(alloc, &mut page, library.statements())?;
-    write_file(alloc, folder, INDEX_FILE.as_bytes(), page.as_slice())
+    let items = index_items(alloc, site.text)?;
+    let sources = IndexSources {
+        statements: site.library.statements(),
+        is_unproved: site.is_unproved,
+        items: items.as_slice(),
+    };
+    let pages = index_pages(alloc, &sources)?;
+    write_files(alloc, pages.as_slice(), folder)
+}
+
+/// Writes the files of pages.
+#[tactic(auto, using(crate::proofs::SiteLemmas::files_on))]
+fn write_files<S: Folder>(
+    alloc: Global,
+    pages: &[IndexPage],
+    folder: &mut S,
+) -> Result<(), SiteFault>
+    ensures { OnOk result (WritesFiles S.writes folder.old (map file_of pages.now) folder.new) }
+{
+    let mut rest = pages;
+    while let Some((page, others)) = rest.split_first() {
+        write_file(alloc, folder, page.name.as_slice(), page.bytes.as_slice())?;
+        rest = others;
+    }
+    Ok(())
 }
 
 /// Writes a file into the folder.
@@ -109,7 +142,7 @@ fn write_file<S: Folder>(
     name: &[u8],
     bytes: &[u8],
 ) -> Result<(), SiteFault>
-    ensures { OnOk result (WritesNamed S.writes folder.old (name.now ∷ []) folder.new) }
+    ensures { OnOk result (S.writes folder.old name.now bytes.now folder.new) }
 {
     let Ok(text) = from_utf8(name) else {
         return Err(SiteFault::File(Vec::from_slice(alloc, name)?));
@@ -118,7 +151,20 @@ fn write_file<S: Folder>(
         Ok(()) => Ok(()),
         Err(FolderFault::Memory) => Err(SiteFault::Memory),
         Err(FolderFault::Refused) => Err(SiteFault::File(Vec::from_slice(alloc, name)?)),
+        Err(FolderFault::Unfinished) => Err(SiteFault::Unfinished),
     }
+}
+
+/// Writes a file into the folder; the clause tells its name alone.
+fn write_named<S: Folder>(
+    alloc: Global,
+    folder: &mut S,
+    name: &[u8],
+    bytes: &[u8],
+) -> Result<(), SiteFault>
+    ensures { OnOk result (WritesNamed S.writes folder.old (name.now ∷ []) folder.new) }
+{
+    write_file(alloc, folder, name, bytes)
 }
 
 /// Writes a page for each assertion.
@@ -134,6 +180,7 @@ fn write_pages<F: Write, S: Folder>(
     let sources = PageSources {
         site,
         references: cross_references(alloc, site.library)?,
+        typecodes: Typecodes::of(alloc, site.library.statements(), site.library.frames())?,
         descriptions: descriptions(alloc, site.text)?,
     };
     let statements = site.library.statements();
@@ -168,7 +215,7 @@ fn write_page<S: Folder>(
     push_page(alloc, sources, index, &mut page)?;
     let mut name = Vec::new(alloc);
     push_file_name(&mut name, label.as_bytes(), index + 1)?;
-    write_file(alloc, folder, name.as_slice(), page.as_slice())?;
+    write_named(alloc, folder, name.as_slice(), page.as_slice())?;
     Ok(true)
 }
 

@@ -1,8 +1,10 @@
 //! A folder of the file system.
+ghost use Rattle.std.specs.Prelude.{◌≡◌, ◌++◌, codes, string_bytes, IfOk};
+
 use crate::folder::{Folder, FolderFault};
 use std::alloc::AllocError;
 use std::fs::{self, File};
-use std::io::Write;
+use std::io::{self, Write};
 use std::rt::Files;
 
 /// The name of a file that is not complete yet. It has no extension, so no page has this name.
@@ -26,7 +28,10 @@ impl<'a, R: Files + AllocGlobal> SystemFolder<'a, R> {
     }
 
     /// Returns the path of the file with this name.
-    fn path_of(&self, name: &str) -> Result<String, AllocError> {
+    fn path_of(&self, name: &str) -> Result<String, AllocError>
+        ensures { IfOk result (λ path. string_bytes path
+            ≡ string_bytes self.now.path ++ codes "/" ++ name.now) }
+    {
         let mut path = String::new(self.rt.alloc());
         path.push_str(self.path.as_str())?;
         path.push_str("/")?;
@@ -60,7 +65,13 @@ impl<'a, R: Files + AllocGlobal> Folder for SystemFolder<'a, R> {
     fn write(&mut self, name: &str, bytes: &[u8]) -> Result<(), FolderFault> {
         let unfinished = self.path_of(UNFINISHED)?;
         let path = self.path_of(name)?;
-        let file = File::create_new(self.rt, unfinished.as_str())?;
+        let file = match File::create_new(self.rt, unfinished.as_str()) {
+            Ok(file) => file,
+            Err(error) if error.kind() == io::ErrorKind::AlreadyExists => {
+                return Err(FolderFault::Unfinished);
+            }
+            Err(error) => return Err(FolderFault::from(error)),
+        };
         let written = self.write_then_rename(file, unfinished.as_str(), path.as_str(), bytes);
         if written.is_err() {
             let _ = fs::remove_file(self.rt, unfinished.as_str());

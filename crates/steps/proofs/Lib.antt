@@ -11,3 +11,5 @@ pub mod PremiseLemmas
 pub mod EssentialMarkLemmas
 pub mod MarkedPlaceLemmas
 pub mod UnfoldLemmas
+mod SoFarLemmas
+mod KnownPartLemmas

@@ -3,5 +3,8 @@ pub mod StepTable
 pub mod Rows
 pub mod Essential
 pub mod Unfolded
+pub mod SoFar
+pub mod KnownPart
+pub mod NormalSoFar
 pub mod Laws
 pub mod Stored

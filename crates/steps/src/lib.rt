@@ -9,14 +9,17 @@
 //!
 //! Reading order: `steps_table` (the table, and `proof_table`), `table_draft` (listens to the run of
 //! `verify` over the items), `step_places` (finds equal steps), `essential` (the essential steps),
-//! `laws`.
+//! `so_far` (the steps of a proof that is not finished) with `known_part`, `laws`.
 #![tactic(auto)]
 
 mod essential;
+mod known_part;
 pub mod laws;
+mod so_far;
 mod step_places;
 mod steps_table;
 mod table_draft;
 
 pub use essential::essential_table;
+pub use so_far::{NormalSoFar, StepsSoFar, normal_so_far, steps_so_far};
 pub use steps_table::{ProofTable, proof_table};

@@ -1,5 +1,6 @@
 //! The table of a proof.
-ghost use Rattle.std.specs.Prelude.{◌≡◌, ◌-◌, ◌<◌, ◌∷◌, ◌++◌, [], IfOk, OnOk, length, get_or, Some};
+ghost use Rattle.std.specs.Prelude.{◌≡◌, ◌-◌, ◌<◌, ◌∷◌, ◌++◌, [], IfOk, OnOk, length, map, get_or, Some};
+ghost use Rattle.steps.specs.Stored.Drafted.{AreInBuffer, row_of};
 ghost use Rattle.mm_read.specs.declared.stmt.Stmt.{Stmt as Statement};
 ghost use Rattle.scope.specs.Active.{stmt_at, expr_of};
 ghost use Rattle.verify.specs.Right.{IsRight, Derives};
@@ -46,6 +47,14 @@ impl ProofTable {
             stored: Vec::new(alloc),
             symbols: Buffer::new(alloc),
         }
+    }
+
+    /// Returns the table of these steps, whose expressions are ranges of the symbols.
+    pub(crate) fn of_draft(stored: Vec<StoredStep>, symbols: Buffer) -> ProofTable
+        requires { AreInBuffer (length symbols) stored.items }
+        ensures { result ≡ map (row_of symbols) stored.items }
+    {
+        ProofTable { stored, symbols }
     }
 
     /// Appends a step with its expression.

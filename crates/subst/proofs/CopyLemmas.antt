@@ -11,27 +11,27 @@ range-same x y at from k e h = range x ∙ (ap (λ s. drop from (take (from + k)
     range : (s : List ℕ) → take k (drop from s) ≡ drop from (take (from + k) (take at s))
     range s = sym (drop-take from k s) ∙ ap (drop from) (sym (take-take (from + k) at s h))
 
--- another block of 32 symbols is copied
-pub copy-on : (x x0 x' : List ℕ) (from len at done : ℕ) → from + len ≤ at → at + len + 32 ≤ length x → done ≤ len
-    → take (at + min done len) x ≡ take at x0 ++ take (min done len) (drop from x0) → at ≤ length x0 → x' ≡ put_chunk (at + done) x (chunk (from + done) 32 x)
-    → take (at + min (done + 32) len) x' ≡ take at x0 ++ take (min (done + 32) len) (drop from x0)
+-- another block of 16 symbols is copied
+pub copy-on : (x x0 x' : List ℕ) (from len at done : ℕ) → from + len ≤ at → at + len + 16 ≤ length x → done ≤ len
+    → take (at + min done len) x ≡ take at x0 ++ take (min done len) (drop from x0) → at ≤ length x0 → x' ≡ put_chunk (at + done) x (chunk (from + done) 16 x)
+    → take (at + min (done + 16) len) x' ≡ take at x0 ++ take (min (done + 16) len) (drop from x0)
 copy-on x x0 x' from len at done before room more sofar long put =
     let m : min done len ≡ done = omega (arith, more) in
     let sofar' : take (at + done) x ≡ take at x0 ++ take done (drop from x0) = subst (λ n. take (at + n) x ≡ take at x0 ++ take n (drop from x0)) m sofar in
-    let k : ℕ = min (done + 32) len - done in
-    let few : k ≤ 32 = omega (arith, more) in
-    let whole : min (done + 32) len ≡ done + k = omega (arith, more) in
+    let k : ℕ = min (done + 16) len - done in
+    let few : k ≤ 16 = omega (arith, more) in
+    let whole : min (done + 16) len ≡ done + k = omega (arith, more) in
     let inside : from + done + k ≤ at = omega (arith, before, whole) in
-    let c : List ℕ = chunk (from + done) 32 x in
-    let c_long : length c ≡ 32 = length-chunk (from + done) 32 x (omega (arith, before, room, more)) in
-    let grown : take (at + done + 32) x' ≡ take (at + done) x ++ c = ap (take (at + done + 32)) put ∙ take_more_put_chunk (at + done) x c (at + done + 32) (omega (arith, c_long)) (omega (arith, room, more)) in
+    let c : List ℕ = chunk (from + done) 16 x in
+    let c_long : length c ≡ 16 = length-chunk (from + done) 16 x (omega (arith, before, room, more)) in
+    let grown : take (at + done + 16) x' ≡ take (at + done) x ++ c = ap (take (at + done + 16)) put ∙ take_more_put_chunk (at + done) x c (at + done + 16) (omega (arith, c_long)) (omega (arith, room, more)) in
     let front : take at x ≡ take at x0 =
     sym (take-take at (at + done) x (omega arith)) ∙ (ap (take at) sofar' ∙ (ap (λ n. take n (take at x0 ++ take done (drop from x0))) (sym (length-take-le at x0 long)) ∙ take-append_seam (take at x0) (take done (drop from x0)))) in
-    let piece : take k c ≡ take k (drop (from + done) x0) = take-take k 32 (drop (from + done) x) few ∙ range-same x x0 at (from + done) k front inside in
+    let piece : take k c ≡ take k (drop (from + done) x0) = take-take k 16 (drop (from + done) x) few ∙ range-same x x0 at (from + done) k front inside in
     let seam : length (take (at + done) x) ≡ at + done = length-take-le (at + done) x (omega (arith, room, more)) in
     ap (λ n. take (at + n) x') whole
     ∙ (ap (λ n. take n x') (let e : at + (done + k) ≡ at + done + k = omega arith in e)
-    ∙ (sym (take-take (at + done + k) (at + done + 32) x' (omega (arith, few)))
+    ∙ (sym (take-take (at + done + k) (at + done + 16) x' (omega (arith, few)))
     ∙ (ap (take (at + done + k)) grown
     ∙ (ap (λ n. take (n + k) (take (at + done) x ++ c)) (sym seam)
     ∙ (take-append-add (take (at + done) x) c k
@@ -41,15 +41,15 @@ copy-on x x0 x' from len at done before room more sofar long put =
     (ap (λ s. take done (drop from x0) ++ s) (piece ∙ ap (take k) (sym (drop-drop done from x0)))
     ∙ (sym (take-add done k (drop from x0)) ∙ ap (λ n. take n (drop from x0)) (sym whole))))))))))
 
-pub copy-first : (x : List ℕ) (from len at : ℕ) → from + len ≤ at → at + len + 32 ≤ length x
-    → take (at + min 32 len) (put_chunk at x (chunk from 32 x)) ≡ take at x ++ take (min 32 len) (drop from x)
+pub copy-first : (x : List ℕ) (from len at : ℕ) → from + len ≤ at → at + len + 16 ≤ length x
+    → take (at + min 16 len) (put_chunk at x (chunk from 16 x)) ≡ take at x ++ take (min 16 len) (drop from x)
 copy-first x from len at before room =
     let here : at ≡ at + 0 = omega arith in
     let there : from ≡ from + 0 = omega arith in
     let none : min 0 len ≡ 0 = omega arith in
     copy-on x x _ from len at 0 before room (omega arith)
     (subst (λ n. take (at + n) x ≡ take at x ++ take n (drop from x)) (sym none) (ap (λ n. take n x) (sym here) ∙ sym (append-nil (take at x))))
-    (omega (arith, room)) (ap (λ n. put_chunk n x (chunk from 32 x)) here ∙ ap (λ n. put_chunk (at + 0) x (chunk n 32 x)) there)
+    (omega (arith, room)) (ap (λ n. put_chunk n x (chunk from 16 x)) here ∙ ap (λ n. put_chunk (at + 0) x (chunk n 16 x)) there)
 
 -- copying as many symbols as a range has, from its start, writes the symbols of the range
 pub place-written : (x y : List ℕ) (at len : ℕ) (p : SymbolRange) → p.start ≤ p.end → p.end ≤ at → at ≤ length x → len ≡ p.end - p.start → at + len ≤ length y

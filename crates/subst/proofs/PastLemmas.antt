@@ -1,5 +1,5 @@
 -- Counts that are past a limit.
-use Rattle.subst.proofs.Words.{◌≡◌, ℕ, ◌+◌, ◌≤◌, ◌++◌, Bool, true, List, take, drop, sum_by, arith, nat_tests, sym, ap, subst, take-append-drop, Option, Some, None, Result, Ok, Err, is_over}
+use Rattle.subst.proofs.Words.{◌≡◌, ℕ, ◌+◌, ◌≤◌, true, List, take, drop, sum_by, arith, nat_tests, ap, take-append-drop, Option, Some, None, Result, Ok, Err, is_over}
 use Rattle.std.specs.Result.{IfErr}
 use Rattle.std.proofs.lemmas.List.Sums.{sum_by-append}
 

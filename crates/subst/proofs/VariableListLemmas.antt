@@ -13,7 +13,7 @@ use Rattle.frame.proofs.PairListLemmas.{turn}
 use Rattle.subst.proofs.Members.{has_number, has-new}
 use Rattle.subst.proofs.ImageRangesLemmas.{inside-more}
 use Rattle.subst.proofs.SymbolRangeLemmas.{seen-last, seen-more}
-use Rattle.subst.proofs.Words.{◌≡◌, ℕ, ◌+◌, ◌-◌, ◌<◌, ◌≤◌, ◌==◌, ◌||◌, ◌&&◌, Bool, true, false, not, true≢false, cond, is_some, nat_eq, List, [], ◌∷◌, ◌++◌, length, take, drop, drop-cons, drop_all, add-one, filter, flat_map, get_or, Some, None, Option, refl, lookup, sym, ◌∙◌, ap, subst, arith, inl, inr, cases_Bool, cases_eq, eqb-true, append-nil, append_assoc, and_parts, or_right, length-append, list_any, AreBelow, AreInside, Numbered, CodeImages, code_image, SymbolRange, symbols_in, AreLists, Extends, HasCountedImages, HasListsInside, HasListsOf, IsListOf, VariableLists, StampedSymbols, has_symbol, image_variables, images_length, is_numbered_variable, new_numbers, numbered_variables, numbers_but, other_variables, compared_variables, listed_beside, list_all, length-drop, length-take-le, numbered_row, read_after, read_images, sum_by, HasCounted, HasRead, HasReadOnly, IsPastList, is_over}
+use Rattle.subst.proofs.Words.{◌≡◌, ℕ, ◌+◌, ◌-◌, ◌<◌, ◌==◌, ◌||◌, ◌&&◌, Bool, true, false, not, true≢false, cond, is_some, nat_eq, List, [], ◌∷◌, ◌++◌, length, take, drop, drop-cons, add-one, filter, flat_map, get_or, Some, None, Option, refl, lookup, sym, ◌∙◌, ap, subst, arith, inl, inr, cases_Bool, cases_eq, eqb-true, append-nil, append_assoc, and_parts, or_right, length-append, list_any, AreBelow, AreInside, Numbered, CodeImages, code_image, SymbolRange, symbols_in, AreLists, Extends, HasCountedImages, HasListsInside, HasListsOf, IsListOf, VariableLists, StampedSymbols, has_symbol, image_variables, images_length, is_numbered_variable, new_numbers, numbered_variables, numbers_but, other_variables, compared_variables, listed_beside, list_all, length-drop, length-take-le, numbered_row, read_after, read_images, sum_by, HasCounted, HasRead, HasReadOnly, IsPastList, is_over}
 
 -- ---- the variables among symbols
 
@@ -48,10 +48,6 @@ pub record AreRead (v : Numbered) (symbols : List ℕ) (n : ℕ) (old new : List
 pub read-none : (v : Numbered) (symbols old : List ℕ) (met : StampedSymbols) → ((u : ℕ) → has_symbol met u ≡ false) → AreRead v symbols 0 old old met
 read-none v symbols old met none = record { numbers = []; met_first = none; rest = refl }
 
-pub read-all : (v : Numbered) (symbols : List ℕ) (n : ℕ) (old new : List ℕ) (met : StampedSymbols) → length symbols ≤ n → AreRead v symbols n old new met → new ≡ old ++ numbered_variables v symbols
-read-all v symbols n old new met past all =
-    sym (append-nil new) ∙ (ap (λ l. new ++ filter (is_numbered_variable v) (new_numbers all.numbers l)) (sym (drop_all n symbols past)) ∙ all.rest)
-
 module _ (v : Numbered) (symbols : List ℕ) (n : ℕ) (old new : List ℕ) (met : StampedSymbols) (low : n < length symbols) (first : AreRead v symbols n old new met) where
   abbrev symbol : ℕ
   symbol = get_or symbols n 0
@@ -64,13 +60,6 @@ module _ (v : Numbered) (symbols : List ℕ) (n : ℕ) (old new : List ℕ) (met
 
   whole : new ++ rest_after (symbol ∷ drop (n + 1) symbols) ≡ old ++ numbered_variables v symbols
   whole = ap (λ l. new ++ rest_after l) (sym next) ∙ first.rest
-
-  pub read-again : has_symbol met symbol ≡ true → AreRead v symbols (n + 1) old new met
-  read-again again = record {
-    numbers = first.numbers;
-    met_first = first.met_first;
-    rest = ap (λ b. new ++ filter (is_numbered_variable v) (cond b (new_numbers first.numbers (drop (n + 1) symbols)) (symbol ∷ new_numbers (symbol ∷ first.numbers) (drop (n + 1) symbols)))) (sym again ∙ first.met_first symbol) ∙ whole;
-  }
 
   -- the rest, if symbol was not met
   rest-new : has_symbol met symbol ≡ false → new ++ filter (is_numbered_variable v) (symbol ∷ new_numbers (symbol ∷ first.numbers) (drop (n + 1) symbols)) ≡ old ++ numbered_variables v symbols
@@ -100,9 +89,6 @@ module _ (v : Numbered) (symbols : List ℕ) (n : ℕ) (old new : List ℕ) (met
 
 -- ---- the ranges of the lists
 
-pub extends-own : (xs : List ℕ) → Extends xs xs
-extends-own xs = record { more = []; whole = sym (append-nil xs) }
-
 pub extends-both : (xs ys zs : List ℕ) → Extends xs ys → Extends ys zs → Extends xs zs
 extends-both xs ys zs a b = record { more = a.more ++ b.more; whole = b.whole ∙ (ap (λ l. l ++ b.more) a.whole ∙ append_assoc xs a.more b.more) }
 
@@ -124,9 +110,6 @@ listed-more v image old new r e h =
       high = omega (arith, within, size, sum);
       lists = ap (λ xs. symbols_in xs r) e.whole ∙ (seen-more old e.more r h.low within ∙ h.lists);
     }
-
-pub lists-none : (v : Numbered) (σ : CodeImages) (a : VariableLists) → a.lists ≡ [] → AreLists v σ a
-lists-none v σ a none = record { each = λ x r e. absurd (cc) }
 
 pub lists-set : (v : Numbered) (σ : CodeImages) (a b : VariableLists) (x : ℕ) (r : SymbolRange) → AreLists v σ a → Extends a.variables.items b.variables.items
     → ((y : ℕ) → lookup (nat_eq y) b.lists ≡ cond (y == x) (Some r) (lookup (nat_eq y) a.lists)) → IsListOf v b.variables.items (code_image σ x) r → AreLists v σ b

@@ -107,8 +107,8 @@ impl Buffer {
     /// more symbols than the limit. The images are ranges of this buffer.
     ///
     /// Errors: an allocation fails; the buffer is unchanged.
-    /// Cost: the symbols read and written, each once; twice, and a copy of the buffer, if it has to
-    /// grow.
+    /// Cost: the expression, and at most as many symbols as the limit; twice, and a copy of the
+    /// buffer, if it has to grow.
     #[inline(always)]
     pub fn add_applied(
         &mut self,
@@ -122,7 +122,7 @@ impl Buffer {
             (λ ok. Appends ok limit self.old self.new (code_apply (images_at self.old images.now) expr.now)) }
         ensures err { OnErr result (self.new ≡ self.old) }
     {
-        let Some(end) = write_applied(&mut self.symbols, self.len, images, expr) else {
+        let Some(end) = write_applied(&mut self.symbols, self.len, limit, images, expr) else {
             return self.add_growing(images, expr, limit);
         };
         if end - self.len > limit {
@@ -132,7 +132,7 @@ impl Buffer {
         Ok(true)
     }
 
-    /// Appends the expression after making room for it.
+    /// Appends the expression after making room for it, unless it is longer than the limit.
     #[cold]
     #[inline(never)]
     fn add_growing(
@@ -151,7 +151,7 @@ impl Buffer {
             return Ok(false);
         };
         make_room(&mut self.symbols, self.len, len + expr.len())?;
-        let Some(end) = write_applied(&mut self.symbols, self.len, images, expr) else {
+        let Some(end) = write_applied(&mut self.symbols, self.len, len, images, expr) else {
             unreachable!();
         };
         self.len = end;

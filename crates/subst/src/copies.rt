@@ -9,21 +9,21 @@ use std::simd::prelude::*;
 
 /// The number of symbols that are copied at once. Up to this many are overwritten after the end of
 /// a copy.
-pub const LANES: usize = 32;
+pub const LANES: usize = 16;
 
 /// Copies the `len` symbols from `from` on, all of them before `at`, to `at`. A copy of at most
 /// `LANES` symbols does not enter the loop.
 #[inline(always)]
 fn copy_run(symbols: &mut [u32], from: usize, len: usize, at: usize)
     requires before { from + len ≤ at }
-    requires room { at + len + 32 ≤ length symbols.old }
+    requires room { at + len + 16 ≤ length symbols.old }
     ensures copied { take (at + len) symbols.new ≡ take at symbols.old ++ take len (drop from symbols.old) }
     ensures count { length symbols.new ≡ length symbols.old }
 {
-    u32x32::from_slice(&symbols[from..]).copy_to_slice(&mut symbols[at..]);
+    u32x16::from_slice(&symbols[from..]).copy_to_slice(&mut symbols[at..]);
     let mut done = LANES;
     while done < len {
-        u32x32::from_slice(&symbols[from + done..]).copy_to_slice(&mut symbols[at + done..]);
+        u32x16::from_slice(&symbols[from + done..]).copy_to_slice(&mut symbols[at + done..]);
         done += LANES;
     }
 }
@@ -34,7 +34,7 @@ fn copy_run(symbols: &mut [u32], from: usize, len: usize, at: usize)
 pub fn copy_range(symbols: &mut [u32], at: usize, last: usize, range: SymbolRange) -> Option<usize>
     requires range { (range.start ≤ range.end) × (range.end ≤ at) }
     requires inside { at ≤ length symbols.old }
-    requires room { last + 32 ≤ length symbols.old }
+    requires room { last + 16 ≤ length symbols.old }
     ensures some { IfSome result (IsWritten symbols.old symbols.new at (symbols_in (take at symbols.old) range)) }
     ensures within { IfSome result (λ end. end ≤ last) }
     ensures none { IfNone result (last < at + length (symbols_in (take at symbols.old) range)) }

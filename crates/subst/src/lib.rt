@@ -36,3 +36,4 @@ pub use laws::{disjoint_condition_law, substitution_over_names};
 pub use stop::Stop;
 pub use symbol_range::{SymbolRange, range_between, symbols_at};
 pub use violation::{DisjointViolation, first_violation};
+pub use writing::applied_len;

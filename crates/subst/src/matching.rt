@@ -94,7 +94,7 @@ fn skip_image(
 
 /// Returns whether the symbols in a range are the expression with all images substituted. The
 /// images are ranges of the same list.
-#[inline(always)]
+#[inline(never)]
 pub(crate) fn matches(
     symbols: &[u32],
     images: &ImageRanges,

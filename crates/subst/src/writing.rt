@@ -1,5 +1,6 @@
 //! Writes an expression with all images substituted into the buffer that has the images.
-ghost use Rattle.std.specs.Prelude.{◌≡◌, ◌+◌, ◌<◌, ◌≤◌, ◌^◌, length, take, IfSome, IfNone, OnOk};
+ghost use Rattle.std.specs.Prelude.{◌≡◌, ◌+◌, ◌<◌, ◌≤◌, ◌^◌, length, min, take, IfSome, IfNone};
+ghost use Rattle.std.specs.Prelude.{OnOk};
 ghost use Rattle.frame.specs.Substitution.{code_apply};
 ghost use Rattle.subst.specs.Stored.Written.{IsWritten, LacksRoom};
 ghost use Rattle.subst.specs.SymbolRanges.{AreInside, images_at};
@@ -11,21 +12,24 @@ use crate::image_ranges::ImageRanges;
 use std::alloc::AllocError;
 
 /// Writes the expression with all images substituted at `at`, and returns where the result ends.
-/// Returns `None` if there is no room after `at` for the result, for as many further symbols as the
-/// expression has, and for the `LANES` symbols that a copy may overwrite.
+/// Returns `None` if an image would end more than `limit` symbols after `at`, or if there is no room
+/// after `at` for the result, for as many further symbols as the expression has, and for the
+/// `LANES` symbols that a copy may overwrite.
 #[inline(always)]
 pub fn write_applied(
     symbols: &mut [u32],
     at: usize,
+    limit: usize,
     images: &ImageRanges,
     expr: &[u32],
 ) -> Option<usize>
     requires within { AreInside at images.now }
     requires inside { at ≤ length symbols.old }
+    requires limit { at + limit ≤ SYMBOLS_LIMIT }
     ensures some { IfSome result
         (IsWritten symbols.old symbols.new at (code_apply (images_at (take at symbols.old) images.now) expr.now)) }
     ensures none { IfNone result
-        (LacksRoom (length symbols.old) at (length expr.now)
+        (LacksRoom (min (length symbols.old) (at + limit + length expr.now + 16)) at (length expr.now)
         (code_apply (images_at (take at symbols.old) images.now) expr.now)) }
     ensures kept { take at symbols.new ≡ take at symbols.old }
     ensures count { length symbols.new ≡ length symbols.old }
@@ -33,7 +37,7 @@ pub fn write_applied(
     if symbols.len() - at < expr.len() + LANES {
         return None;
     }
-    let last = symbols.len() - expr.len() - LANES;
+    let last = (symbols.len() - expr.len() - LANES).min(at + limit);
     let table = images.table();
     let mut end = at;
     for symbol in expr {
@@ -84,7 +88,7 @@ pub fn applied_len(
 #[inline(never)]
 pub fn make_room(buffer: &mut Vec<u32>, len: usize, more: usize) -> Result<(), AllocError>
     requires { (len ≤ SYMBOLS_LIMIT) × (more < 2 ^ 62) × (len ≤ length buffer.old.items) }
-    ensures room { OnOk result (len + more + 32 ≤ length buffer.new.items) }
+    ensures room { OnOk result (len + more + 16 ≤ length buffer.new.items) }
     ensures same { take len buffer.new.items ≡ take len buffer.old.items }
     ensures within { len ≤ length buffer.new.items }
 {

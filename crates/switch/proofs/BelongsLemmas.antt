@@ -46,7 +46,7 @@ module _ {V : Type 0} (size : V → ℕ) (old : SwitchView V) where
   same_stays new is k entries h = subst (λ (s : SwitchView V). IsLogPrefix size s k entries) (sym is) h
 
   -- if only a store changes, each prefix of a log remains one
-  view_stays : (new : SwitchView V) (k : ℕ) (view : StoreView V) → new ≡ with_store old k view → KeepsPrefixes size old new
+  pub view_stays : (new : SwitchView V) (k : ℕ) (view : StoreView V) → new ≡ with_store old k view → KeepsPrefixes size old new
   view_stays new k view is j entries h = subst (λ (s : SwitchView V). IsLogPrefix size s j entries) (sym is) record {
     node = subst (λ (n : ℕ). j < n) (sym (length-set old.stores k view)) h.node;
     begins = h.begins;
@@ -121,7 +121,7 @@ module _ {V : Type 0} (size : V → ℕ) (old : SwitchView V) (e : Event V) (new
 
   -- an event at which a call of the keep fails keeps the logs
   logs_fail : (j : ℕ) (view : StoreView V) (change : Option (Change V)) (left : Status (Event V)) → FailsAt old new j view change left → EventKeepsPrefixes size e old new result
-  logs_fail j view change left h = logs_store j (record { kept = h.kept; failures = view.failures + 1; status = left }) h.rest
+  logs_fail j view change left h = logs_store j (record { kept = h.kept; failures = view.failures + 1; status = left; in_group = view.in_group }) h.rest
 
 module _ {V : Type 0} (size : V → ℕ) (old : SwitchView V) (w : World V) (was : world_of size old ≡ Ok w) (stores : AreStores size w old.stores) (new : SwitchView V) where
   -- an event that happens at a node that is up keeps the logs
@@ -170,7 +170,7 @@ module _ {V : Type 0} (size : V → ℕ) (old : SwitchView V) (w : World V) (was
   } where
     counted : length new.stores ≡ length old.stores
     counted = ap (λ (s : SwitchView V). length s.stores) h.rest ∙ length-set old.stores j _
-  recovered_logs j view e pending (Err fault) (inl h) = logs_store size old (Restart j) new (Err fault) j (record { kept = h.1.kept; failures = view.failures; status = view.status }) h.1.rest
+  recovered_logs j view e pending (Err fault) (inl h) = logs_store size old (Restart j) new (Err fault) j (record view { kept = h.1.kept }) h.1.rest
   recovered_logs j view e pending (Err fault) (inr h) = logs_fail size old (Restart j) new (Err fault) j view (change_of_pending size w e) view.status h.1
 
 -- what holds after an error of one call holds after it of both

@@ -185,12 +185,12 @@ module _ {V : Type 0} (size : V → ℕ) (net : NetView V) (stores : List (Store
             either = subst (λ (c : Option (Change V)). IsWithOrWithout store.kept c new.kept) is_change fails.kept;
             rest = ap (λ (ps : List (StoreView V)). let s : SwitchView V = record { weights = net.history.weights; event_limit = net.history.event_limit; begins = net.history.begins; history = net.history.events; stores = ps } in s) (views_of-set stores d1.at new)
                 ∙ ap (λ (s : StoreState V). with_store old d1.at (view_of s)) fails.rest
-                ∙ ap (λ (f : Option (Event V)). with_store old d1.at record { kept = new.kept; failures = store.failures + 1; status = down f }) is_staged;
+                ∙ ap (λ (f : Option (Event V)). with_store old d1.at record { kept = new.kept; failures = store.failures + 1; status = down f; in_group = store.in_group }) is_staged;
           },
         )))
 
       -- The keep has made the change, and the event is taken.
-      module _ (new : StoreState V) (stored : new ≡ record { kept = changed_by store.kept (change_in d1.work); failures = store.failures; status = store.status }) (b : NetView V) (t : IsTaken net b d1) where
+      module _ (new : StoreState V) (stored : new ≡ record store { kept = changed_by store.kept (change_in d1.work) }) (b : NetView V) (t : IsTaken net b d1) where
         -- the net and the stores are a switch again
         pub played : IsSwitch size b (set stores d1.at new)
         played = committed size net stores h d1 d low b t store new is

@@ -107,7 +107,7 @@ module _ {V : Type 0} (size : V → ℕ) (a b : NetView V) (only_capacity : Chan
 
     -- if the keep made the change and the event was taken, the net and the stores are a switch, and
     -- the count of packets is the right answer
-    pub call_played : (new : StoreState V) → new ≡ record { kept = changed_by store.kept (change_in d1.work); failures = store.failures; status = store.status } → (c : NetView V) → IsTaken b c d1 → (count : ℕ) → count ≡ length (packets_after (world_of_taken size c.history))
+    pub call_played : (new : StoreState V) → new ≡ record store { kept = changed_by store.kept (change_in d1.work) } → (c : NetView V) → IsTaken b c d1 → (count : ℕ) → count ≡ length (packets_after (world_of_taken size c.history))
         → IsSwitch size c (set stores k new) × ForOk (world_of size now) (λ x. IsEffectUnlessDown size x now (switch_view c (set stores k new)) e (Ok count))
     call_played new stored c t count counted =
         subst (λ (i : ℕ). IsSwitch size c (set stores i new) × ForOk (world_of size now) (λ x. IsEffectUnlessDown size x now (switch_view c (set stores i new)) e (Ok count))) (sym is_at) (

@@ -9,6 +9,7 @@ mod OwedLemmas
 mod RecoveryLemmas
 mod ResumeLemmas
 mod ReloadLemmas
+mod GroupLemmas
 mod RecoveryRefused
 mod BelongsLemmas
 mod TieLemmas

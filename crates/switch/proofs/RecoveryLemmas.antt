@@ -1,5 +1,5 @@
 -- The restart of a node that is down: the event that it owes is taken first.
-use Rattle.switch.proofs.Words.{◌≡◌, ℕ, ◌+◌, ◌<◌, ◌≤◌, true, false, List, [], ◌∷◌, ◌++◌, length, get_or, set, slice_get, inl, inr, Option, Some, None, Result, Ok, Err, refl, ap, sym, ◌∙◌, subst, arith, length-append, AllByRecursion, option_map, ForOk, length-set, slice_get_read, Packet, Ask, Change, IsPost, to_others, KeptPart, changed_by, Node, StepResult, kept_of, Core, reloaded, restarted, Event, Restart, StepFault, Memory, Device, World, packets_after, History, world_of_taken, kept_part, StagedWork, steps, restarts, StagedEvent, NetView, HasSpareCapacity, IsStaged, IsReadyAt, IsOfEvent, IsEventAt, HasResult, IsTaken, posts_of, step_of, with_loaded, with_record, at_set, set_twice, comes_restart, set_same, Status, up, down, StoreState, pending_of, pending_change, pending_posts, IsRecordOf, IsWithOrWithout, Fails, StoreView, SwitchView, pending_event, status_view, view_of, views_of, IsPendingStaged, StoreFitsNode, IsSwitch, CanCommitPending, CommitsPending, world_of, is_down_at, is_unloaded_at, pending_events, with_store, IsRecoveryOutcome, IsEffectOfRecovery}
+use Rattle.switch.proofs.Words.{◌≡◌, ◌≢◌, ℕ, ◌+◌, ◌<◌, ◌≤◌, true, false, List, [], ◌∷◌, ◌++◌, length, get_or, set, slice_get, inl, inr, Option, Some, None, Result, Ok, Err, refl, ap, sym, ◌∙◌, subst, arith, length-append, AllByRecursion, option_map, ForOk, length-set, slice_get_read, Packet, Ask, Change, IsPost, to_others, KeptPart, changed_by, Node, StepResult, kept_of, Core, reloaded, restarted, Event, Restart, StepFault, Memory, Device, World, packets_after, History, world_of_taken, kept_part, StagedWork, steps, restarts, StagedEvent, NetView, HasSpareCapacity, IsStaged, IsReadyAt, IsOfEvent, IsEventAt, HasResult, IsTaken, posts_of, step_of, with_loaded, with_record, at_set, set_twice, comes_restart, set_same, Status, up, down, StoreState, pending_of, pending_change, pending_posts, IsRecordOf, IsWithOrWithout, Fails, StoreView, SwitchView, pending_event, status_view, view_of, views_of, IsPendingStaged, StoreFitsNode, IsSwitch, CanCommitPending, CommitsPending, world_of, is_down_at, is_unloaded_at, pending_events, with_store, IsRecoveryOutcome, IsEffectOfRecovery}
 use Rattle.switch.proofs.KeepLemmas.{either_twice}
 use Rattle.switch.proofs.StoresLemmas.{views_of-set, view_at, item_at, down_at, few_staged}
 use Rattle.switch.proofs.SwitchLemmas.{switch_view, core_node, own_number, own_weights, other_store, at, node_is, committed}
@@ -41,6 +41,10 @@ module _ {V : Type 0} (size : V → ℕ) (net : NetView V) (stores : List (Store
   is_down : (o : Option (StagedEvent V)) × (store.status ≡ down o)
   is_down = down_at stores k store found (ap (λ (i : ℕ). is_down_at (views_of stores) (Some i)) (sym is_j) ∙ ap (λ (s : SwitchView V). is_down_at s.stores (Some j)) seen ∙ test)
       (ap (λ (i : ℕ). is_unloaded_at (views_of stores) i) (sym is_j) ∙ ap (λ (s : SwitchView V). is_unloaded_at s.stores j) seen ∙ loaded)
+
+  -- so it is not up
+  pub not_up : store.status ≢ up
+  not_up e = let never : down is_down.0 ≡ up = sym is_down.1 ∙ e in cc
 
   abbrev o : Option (StagedEvent V)
   o = is_down.0
@@ -110,7 +114,7 @@ module _ {V : Type 0} (size : V → ℕ) (net : NetView V) (stores : List (Store
         either = subst (λ (c : Option (Change V)). IsWithOrWithout store.kept c new.kept) (owed_change size net stores h k o pending_staged) either;
         rest = ap (λ (ps : List (StoreView V)). let s : SwitchView V = record { weights = net.history.weights; event_limit = net.history.event_limit; begins = net.history.begins; history = net.history.events; stores = ps } in s) (views_of-set stores k new)
             ∙ ap (λ (s : StoreState V). with_store old k (view_of s)) fails.rest
-            ∙ ap (λ (i : ℕ). with_store old i record { kept = new.kept; failures = store.failures + 1; status = status_view store.status }) (sym is_j);
+            ∙ ap (λ (i : ℕ). with_store old i record { kept = new.kept; failures = store.failures + 1; status = status_view store.status; in_group = store.in_group }) (sym is_j);
       },
     ))
 
@@ -121,7 +125,7 @@ module _ {V : Type 0} (size : V → ℕ) (net : NetView V) (stores : List (Store
       (can_take size net stores h k room o pending_staged more (subst (λ (i : ℕ). HasSpareCapacity net (i + more) 2) (count ∙ ap (λ (p : Option (StagedEvent V)). length (pending_posts p)) owed_is) r))
 
   -- The keep has made the change of the pending event, and the event is taken.
-  module _ (new : StoreState V) (repaired : new ≡ record { kept = changed_by store.kept (pending_change (pending_of store.status)); failures = store.failures; status = up }) (m : NetView V) (pending : Option (StagedEvent V)) (is_owed : pending ≡ pending_of store.status)
+  module _ (new : StoreState V) (repaired : new ≡ record store { kept = changed_by store.kept (pending_change (pending_of store.status)); status = up }) (m : NetView V) (pending : Option (StagedEvent V)) (is_owed : pending ≡ pending_of store.status)
       (takes : CommitsPending net m pending) where
     -- the record of the keep is the one before with the change of the pending event
     new_kept_is : new.kept ≡ changed_by store.kept (pending_change o)
@@ -263,6 +267,5 @@ module _ {V : Type 0} (size : V → ℕ) (net : NetView V) (stores : List (Store
               is_kept = ap (λ (i : ℕ). kept_part x i) is_j ∙ ap (λ (n : Option (Node V)). option_map kept_of n) node_z ∙ ap (λ (y : KeptPart V). let p : Option (KeptPart V) = Some y in p) (sym fits_z);
               rest = view_is_same _ _ _ _ _ _ _ _ _ _ weights limit begins history
                   (views_of-set stores k new ∙ ap (λ (i : ℕ). set (views_of stores) i (view_of new)) (sym is_j)
-                  ∙ ap (λ (i : ℕ). set (views_of stores) j (let p : StoreView V = record { kept = new.kept; failures = i; status = status_view new.status } in p)) (ap (λ (s : StoreState V). s.failures) repaired)
-                  ∙ ap (λ (s : Status (StagedEvent V)). set (views_of stores) j (let p : StoreView V = record { kept = new.kept; failures = store.failures; status = status_view s } in p)) new_up);
+                  ∙ ap (λ (s : StoreState V). set (views_of stores) j (let p : StoreView V = record { kept = new.kept; failures = s.failures; status = status_view s.status; in_group = s.in_group } in p)) repaired);
             }

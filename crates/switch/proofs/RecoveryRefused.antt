@@ -20,7 +20,7 @@ recover_unready {V} size net stores h now seen j test room fault r is_err new sa
       spent = λ spent. absurd (omega (arith, spent, room));
       recovered = λ le. inl (is_memory, record { kept = view.kept; either = inl refl; rest = same ∙ sym (kept_view view found) });
     }) where
-      kept_view : (view : StoreView V) → slice_get (views_of stores) j ≡ Some view → with_store (switch_view net stores) j record { kept = view.kept; failures = view.failures; status = view.status } ≡ switch_view net stores
+      kept_view : (view : StoreView V) → slice_get (views_of stores) j ≡ Some view → with_store (switch_view net stores) j (record view { kept = view.kept }) ≡ switch_view net stores
       kept_view view found = ap (λ (ps : List (StoreView V)). let s : SwitchView V = record { weights = net.history.weights; event_limit = net.history.event_limit; begins = net.history.begins; history = net.history.events; stores = ps } in s) (set_same (views_of stores) j view found)
 
       down_store : (o : Option (StoreState V)) → slice_get stores j ≡ o → (store : StoreState V) × (slice_get stores j ≡ Some store)

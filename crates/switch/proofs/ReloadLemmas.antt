@@ -46,6 +46,10 @@ module _ {V : Type 0} (size : V → ℕ) (net : NetView V) (stores : List (Store
     is_unloaded_store : store.status ≡ unloaded
     is_unloaded_store = unloaded_of store.status (sym (ap (λ (o : Option (StoreView V)). is_unloaded_view o) (view_at stores k store found)) ∙ test_here)
 
+    -- so it is not up
+    pub not_up : store.status ≢ up
+    not_up e = let never : unloaded ≡ up = sym is_unloaded_store ∙ e in cc
+
     its_node : (n : Node V) × (slice_get h.world.world.nodes k ≡ Some n)
     its_node = node_there size net stores h now seen k store found
 
@@ -74,7 +78,7 @@ module _ {V : Type 0} (size : V → ℕ) (net : NetView V) (stores : List (Store
           either = subst (λ (s : Status (StagedEvent V)). IsWithOrWithout store.kept (pending_change (pending_of s)) new.kept) is_unloaded_store fails.kept;
           rest = ap (λ (ps : List (StoreView V)). let s : SwitchView V = record { weights = net.history.weights; event_limit = net.history.event_limit; begins = net.history.begins; history = net.history.events; stores = ps } in s) (views_of-set stores k new)
               ∙ ap (λ (s : StoreState V). with_store (switch_view net stores) k (view_of s)) fails.rest
-              ∙ ap (λ (s : Status (StagedEvent V)). with_store (switch_view net stores) k record { kept = new.kept; failures = store.failures + 1; status = status_view s }) is_unloaded_store;
+              ∙ ap (λ (s : Status (StagedEvent V)). with_store (switch_view net stores) k record { kept = new.kept; failures = store.failures + 1; status = status_view s; in_group = store.in_group }) is_unloaded_store;
         };
       }
 
@@ -83,8 +87,8 @@ module _ {V : Type 0} (size : V → ℕ) (net : NetView V) (stores : List (Store
       kept_is : kept ≡ store.kept
       kept_is = loaded ∙ ap (λ (s : Status (StagedEvent V)). changed_by store.kept (pending_change (pending_of s))) is_unloaded_store
 
-      new_is : new ≡ record { kept = store.kept; failures = store.failures; status = up }
-      new_is = is_up ∙ ap (λ (s : Status (StagedEvent V)). let r : StoreState V = record { kept = changed_by store.kept (pending_change (pending_of s)); failures = store.failures; status = up } in r) is_unloaded_store
+      new_is : new ≡ record store { status = up }
+      new_is = is_up ∙ ap (λ (s : Status (StagedEvent V)). let r : StoreState V = record store { kept = changed_by store.kept (pending_change (pending_of s)); status = up } in r) is_unloaded_store
 
       nodes_are : t.world.world.nodes ≡ set h.world.world.nodes k t.core.node
       nodes_are = t.world.nodes ∙ ap (λ (cs : List (Core V)). nodes_of cs) t.cores ∙ nodes_of-set net.cores k t.core ∙ ap (λ (ns : List (Node V)). set ns k t.core.node) (sym h.world.nodes)

@@ -106,14 +106,19 @@ down_unless_up unloaded not = refl
 -- the new stores for keeps with one more are those for the keeps and the one for that keep
 pub new_stores-push : {V K : Type 0} (kept : K → KeptPart V) (failures : K → ℕ) (keeps : List K) (keep : K) → new_stores kept failures (keeps ++ keep ∷ []) ≡ new_stores kept failures keeps ++ new_stores kept failures (keep ∷ [])
 new_stores-push kept failures [] keep = refl
-new_stores-push {V} kept failures (k ∷ keeps) keep = ap (λ (ss : List (StoreState V)). (let s : StoreState V = record { kept = kept k; failures = failures k; status = up } in s) ∷ ss) (new_stores-push kept failures keeps keep)
+new_stores-push {V} kept failures (k ∷ keeps) keep = ap (λ (ss : List (StoreState V)). (let s : StoreState V = record { kept = kept k; failures = failures k; status = up; in_group = false } in s) ∷ ss) (new_stores-push kept failures keeps keep)
+
+-- of keeps that have the record of a new node each has it
+pub new_among : {V K : Type 0} (kept : K → KeptPart V) (keeps more : List K) (keep : K) → AllByRecursion (λ k. kept k ≡ new_kept) (keeps ++ keep ∷ more) → kept keep ≡ new_kept
+new_among kept [] more keep h = h.0
+new_among kept (k ∷ keeps) more keep h = new_among kept keeps more keep h.1
 
 -- if each keep has the record of a new node, the views of the new stores are new views
 pub views_new : {V K : Type 0} (kept : K → KeptPart V) (failures : K → ℕ) (keeps : List K) → AllByRecursion (λ keep. kept keep ≡ new_kept) keeps → views_of (new_stores kept failures keeps) ≡ new_views failures keeps
 views_new kept failures [] h = refl
 views_new {V} kept failures (keep ∷ keeps) h =
-    ap (λ (x : KeptPart V). let p : StoreView V = record { kept = x; failures = failures keep; status = up } in p ∷ views_of (new_stores kept failures keeps)) h.0
-    ∙ ap (λ (ps : List (StoreView V)). let p : StoreView V = record { kept = new_kept; failures = failures keep; status = up } in p ∷ ps) (views_new kept failures keeps h.1)
+    ap (λ (x : KeptPart V). let p : StoreView V = record { kept = x; failures = failures keep; status = up; in_group = false } in p ∷ views_of (new_stores kept failures keeps)) h.0
+    ∙ ap (λ (ps : List (StoreView V)). let p : StoreView V = record { kept = new_kept; failures = failures keep; status = up; in_group = false } in p ∷ ps) (views_new kept failures keeps h.1)
 
 -- there are as many new stores as keeps
 pub count_stores : {V K : Type 0} (kept : K → KeptPart V) (failures : K → ℕ) (keeps : List K) → length (new_stores kept failures keeps) ≡ length keeps
@@ -125,7 +130,7 @@ pub new_at : {V K : Type 0} (kept : K → KeptPart V) (failures : K → ℕ) (ke
     → (store.kept ≡ new_kept) × (store.status ≡ up)
 new_at kept failures [] h k store at = cc
 new_at {V} kept failures (keep ∷ keeps) h zero store at =
-    let first : StoreState V = record { kept = kept keep; failures = failures keep; status = up } in
+    let first : StoreState V = record { kept = kept keep; failures = failures keep; status = up; in_group = false } in
     let same : first ≡ store = cc in
     (ap (λ (s : StoreState V). s.kept) (sym same) ∙ h.0, ap (λ (s : StoreState V). s.status) (sym same))
 new_at kept failures (keep ∷ keeps) h (suc k) store at = new_at kept failures keeps h.1 k store at

@@ -24,9 +24,9 @@ pub use Rattle.net.specs.declared.event.Event.TheVariants.{Begin, Deliver, Offer
 pub use Rattle.net.specs.declared.fault.StepFault.{StepFault}
 pub use Rattle.net.specs.declared.fault.StepFault.TheVariants.{Device, Down, EventsSpent, Memory}
 pub use Rattle.slots.specs.FiniteMap.{put_at}
-pub use Rattle.std.proofs.Common.{Bool, Err, List, None, Ok, Option, Result, Some, [], ap, append-nil, append_assoc, arith, false, get_or, inl, inr, le_of_suc-le-suc, length, length-append, nat_lt, refl, set, slice_get, subst, suc, sym, true, zero, ℕ, ◌++◌, ◌+◌, ◌<◌, ◌==◌, ◌∙◌, ◌∷◌, ◌≡◌, ◌≢◌, ◌≤◌}
+pub use Rattle.std.proofs.Common.{Bool, Err, List, None, Ok, Option, Result, Some, [], ap, append-nil, append_assoc, arith, false, get_or, inl, inr, le_of_suc-le-suc, length, length-append, nat_lt, refl, set, slice_get, subst, suc, sym, take, true, zero, ℕ, ◌++◌, ◌+◌, ◌<◌, ◌==◌, ◌∙◌, ◌∷◌, ◌≡◌, ◌≢◌, ◌≤◌}
 pub use Rattle.std.proofs.lemmas.Bool.Decides.{nat_tests}
-pub use Rattle.std.proofs.lemmas.List.{length-map, length-set, map-append, nil_from_length}
+pub use Rattle.std.proofs.lemmas.List.{length-map, length-set, map-append, nil_from_length, take_all, take_more}
 pub use Rattle.std.proofs.lemmas.Option.{slice_get_past, slice_get_read, slice_get_within}
 pub use Rattle.std.specs.List.{AllByRecursion}
 pub use Rattle.std.specs.Option.{option_map}
@@ -34,8 +34,8 @@ pub use Rattle.std.specs.Prelude.{IfErr, IsErrAnd, IsOkUnless, IsSome, OnErr, On
 pub use Rattle.std.specs.Result.{ForOk}
 pub use Rattle.std.specs.Vec.Iter.{into_iter_items}
 pub use Rattle.switch.specs.LogPrefixes.{IsLogPrefix, EventKeepsPrefixes, KeepsPrefixes}
-pub use Rattle.switch.specs.NodeStore.{Fails, IsRecordOf, IsWithOrWithout, Status, StoreState, pending_change, down, pending_of, pending_posts, unloaded, up}
-pub use Rattle.switch.specs.Switch.{IsAfter, IsEffect, AreResumedStores, IsResumed, IsResumedStore, IsLoadedAgain, IsReloadOutcome, StaysUnloaded, Refuses, UnloadedAreIdle, history_of, is_unloaded, is_unloaded_at, is_unloaded_view, IsEffectAtDownNode, IsEffectUnlessDown, AreStores, CanCommitPending, FailsAt, IsPendingStaged, IsRecordIn, StoreFitsNode, IsSwitch, ViewFitsNode, Plays, IsEffectOfRecovery, IsRecoveryOutcome, StoreView, SwitchView, IsOutcomeAt, CommitsPending, change_of_pending, pending_on_failure, pending_event, pending_events, is_down, is_down_at, is_down_view, new_stores, new_views, status_view, view_of, views_of, with_store, world_of}
+pub use Rattle.switch.specs.NodeStore.{EndsGroup, Fails, IsRecordOf, ended, IsWithOrWithout, Status, StoreState, pending_change, down, pending_of, pending_posts, unloaded, up}
+pub use Rattle.switch.specs.Switch.{DeliversInTurn, DeliversOrLeaves, EndsGroupAt, with_group, with_group_of, IsAfter, IsEffect, AreResumedStores, IsResumed, IsResumedStore, IsLoadedAgain, IsReloadOutcome, StaysUnloaded, Refuses, UnloadedAreIdle, history_of, is_unloaded, is_unloaded_at, is_unloaded_view, IsEffectAtDownNode, IsEffectUnlessDown, AreStores, CanCommitPending, FailsAt, IsPendingStaged, IsRecordIn, StoreFitsNode, IsSwitch, ViewFitsNode, Plays, IsEffectOfRecovery, IsRecoveryOutcome, StoreView, SwitchView, IsOutcomeAt, CommitsPending, change_of_pending, pending_on_failure, pending_event, pending_events, is_down, is_down_at, is_down_view, new_stores, new_views, status_view, view_of, views_of, with_store, world_of}
 pub use Rattle.synod.proofs.NodeInvariant.{all_append}
 pub use Rattle.synod.specs.Core.{Core}
 pub use Rattle.synod.specs.Node.{Node, StepResult, kept_of, restarted_node}

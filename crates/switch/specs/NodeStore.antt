@@ -3,10 +3,10 @@
 -- Source: Lamport, Paxos Made Simple, section 2.5: an acceptor records its response in stable
 -- storage before sending it.
 -- The code has the keep itself. Contracts see the record that the keep would load, how many of its
--- calls failed, and whether the node is up or down, with the pending event (the one whose store
--- failed), if there is one.
-use Rattle.std.specs.Prelude.{◌≡◌, ◌⊎◌, ◌+◌, ℕ, List, [], Option, Some, None}
-use Rattle.switch.specs.Words.{Packet, Change, KeptPart, changed_by, Node, kept_of, StagedEvent, change_in, posts_of}
+-- calls failed, whether the node is up or down, with the pending event (the one whose store
+-- failed), if there is one, and whether its changes are committed later, as those of a group.
+use Rattle.std.specs.Prelude.{◌≡◌, ◌≢◌, ◌⊎◌, ◌+◌, ℕ, Bool, true, false, List, [], Option, Some, None}
+use Rattle.switch.specs.Words.{Packet, Change, KeptPart, changed_by, new_kept, Node, kept_of, StagedEvent, change_in, posts_of}
 use Rattle.switch.specs.declared.node_store.Status.{Status as RustStatus}
 use Rattle.switch.specs.declared.node_store.Status.TheVariants.{Up, Down, Unloaded}
 
@@ -28,6 +28,11 @@ pub record StoreState (V : Type 0) : Type 0 where
   pub kept : KeptPart V  -- the record that the keep would load
   pub failures : ℕ  -- how many calls of the keep failed
   pub status : Status (StagedEvent V)
+  pub in_group : Bool  -- whether the changes of events are committed later, together
+
+-- what was stored is committed, if the node is up and in no group; of a new node nothing was stored
+abbrev pub IsCommitted : {V : Type 0} → Status (StagedEvent V) → Bool → KeptPart V → Bool → Type 0
+IsCommitted status in_group kept is_committed = status ≡ up → in_group ≡ false → kept ≢ new_kept → is_committed ≡ true
 
 -- The pending event, its change, and the packets that it posts.
 
@@ -46,7 +51,7 @@ pending_posts (Some staged) = posts_of staged.work
 
 -- the store once its keep has made the change
 abbrev pub with_change : {V : Type 0} → StoreState V → Option (Change V) → StoreState V
-with_change store change = record { kept = changed_by store.kept change; failures = store.failures; status = store.status }
+with_change store change = record store { kept = changed_by store.kept change }
 
 -- the store once its keep has made the change of the pending event, if there is one
 abbrev pub with_pending_change : {V : Type 0} → StoreState V → StoreState V
@@ -68,4 +73,15 @@ IsRecordOf n unloaded kept = Unit {0}
 -- the effect of a failed call of the keep
 pub record Fails {V : Type 0} (old : StoreState V) (change : Option (Change V)) (status_after : Status (StagedEvent V)) (new : StoreState V) : Type 0 where
   pub kept : IsWithOrWithout old.kept change new.kept
-  pub rest : new ≡ record { kept = new.kept; failures = old.failures + 1; status = status_after }
+  pub rest : new ≡ record { kept = new.kept; failures = old.failures + 1; status = status_after; in_group = old.in_group }
+
+-- The end of a group.
+
+abbrev pub ended : {V : Type 0} → StoreState V → StoreState V
+ended store = record store { in_group = false }
+
+-- a node that is up and whose keep commits is as before, but for the group; a node that is down
+-- stays so; else the commit failed, and the node is down with no pending event
+abbrev pub EndsGroup : {V : Type 0} → StoreState V → StoreState V → Bool → Type 0
+EndsGroup old new true = (old.status ≡ up) × (new ≡ ended old)
+EndsGroup old new false = ((old.status ≢ up) × (new ≡ ended old)) ⊎ ((old.status ≡ up) × Fails (ended old) None (down None) new)

@@ -4,19 +4,21 @@
 -- is this project's choice.
 -- The code has a net and the keeps; by the invariant of the type, the state of the net is that of
 -- the world after the history.
-use Rattle.std.specs.Prelude.{◌≡◌, ◌⊎◌, ◌+◌, ◌≤◌, ◌<◌, ℕ, Bool, true, false, List, [], ◌∷◌, ◌++◌, Option, Some, None, Result, Ok, Err, MatchResult, length, slice_get, slice_set}
+use Rattle.std.specs.Prelude.{◌≡◌, ◌≢◌, ◌⊎◌, ◌+◌, ◌≤◌, ◌<◌, ℕ, Bool, true, false, List, [], ◌∷◌, ◌++◌, Option, Some, None, Result, Ok, Err, MatchResult, length, slice_get, slice_set}
 use Rattle.std.specs.Borrow.{Bor}
-use Rattle.switch.specs.Words.{Packet, Change, KeptPart, changed_by, new_kept, Node, kept_of, Event, Offer, Begin, Deliver, Restart, StepFault, Memory, Device, Down, EventsSpent, NoPacket, World, event_result, events_result, log_after, AreOfWorld, History, first_world, world_of_taken, IsIdle, node_of, change_of, kept_part, StagedEvent, NetView, IsStaged, HasSpareCapacity, IsTaken, posts_of}
+use Rattle.switch.specs.Words.{Packet, Change, KeptPart, changed_by, new_kept, Node, kept_of, Event, Offer, Begin, Deliver, Restart, StepFault, Memory, Device, Down, EventsSpent, NoPacket, World, event_result, events_result, log_after, packets_after, AreOfWorld, History, first_world, world_of_taken, IsIdle, node_of, change_of, kept_part, StagedEvent, NetView, IsStaged, HasSpareCapacity, IsTaken, posts_of}
 use Rattle.switch.specs.NodeStore.{Status, up, down, unloaded, StoreState, IsRecordOf, IsWithOrWithout}
 
 -- The switch as contracts see it.
 
--- the store of a node: the record that its keep would load, how many calls of the keep failed, and
--- its status: up, or down with the pending event, if there is one
+-- the store of a node: the record that its keep would load, how many calls of the keep failed,
+-- its status: up, or down with the pending event, if there is one, and whether the changes of its
+-- events are committed later, as those of a group; else what a node that is up stored is committed
 pub record StoreView (V : Type 0) : Type 0 where
   pub kept : KeptPart V
   pub failures : ℕ
   pub status : Status (Event V)
+  pub in_group : Bool
 
 pub record SwitchView (V : Type 0) : Type 0 where
   pub weights : List ℕ
@@ -35,7 +37,7 @@ status_view (down pending) = down (pending_event pending)
 status_view unloaded = unloaded
 
 abbrev pub view_of : {V : Type 0} → StoreState V → StoreView V
-view_of store = record { kept = store.kept; failures = store.failures; status = status_view store.status }
+view_of store = record { kept = store.kept; failures = store.failures; status = status_view store.status; in_group = store.in_group }
 
 abbrev pub views_of : {V : Type 0} → List (StoreState V) → List (StoreView V)
 views_of [] = []
@@ -45,12 +47,12 @@ views_of (store ∷ stores) = view_of store ∷ views_of stores
 -- calls of a keep
 abbrev pub new_views : {V K : Type 0} → (K → ℕ) → List K → List (StoreView V)
 new_views failures [] = []
-new_views failures (keep ∷ keeps) = record { kept = new_kept; failures = failures keep; status = up } ∷ new_views failures keeps
+new_views failures (keep ∷ keeps) = record { kept = new_kept; failures = failures keep; status = up; in_group = false } ∷ new_views failures keeps
 
 -- the stores of nodes that are up, with these keeps
 abbrev pub new_stores : {V K : Type 0} → (K → KeptPart V) → (K → ℕ) → List K → List (StoreState V)
 new_stores kept failures [] = []
-new_stores kept failures (keep ∷ keeps) = record { kept = kept keep; failures = failures keep; status = up } ∷ new_stores kept failures keeps
+new_stores kept failures (keep ∷ keeps) = record { kept = kept keep; failures = failures keep; status = up; in_group = false } ∷ new_stores kept failures keeps
 
 -- The switch of nodes that begin with the records of keeps.
 
@@ -58,8 +60,8 @@ new_stores kept failures (keep ∷ keeps) = record { kept = kept keep; failures 
 -- which begins as a new one and is unloaded
 abbrev pub IsResumedStore : {V : Type 0} → KeptPart V → ℕ → KeptPart V → StoreView V → Type 0
 IsResumedStore kept failures begun view =
-    ((begun ≡ kept) × (view ≡ record { kept = kept; failures = failures; status = up }))
-    ⊎ ((begun ≡ new_kept) × (view ≡ record { kept = kept; failures = failures + 1; status = unloaded }))
+    ((begun ≡ kept) × (view ≡ record { kept = kept; failures = failures; status = up; in_group = false }))
+    ⊎ ((begun ≡ new_kept) × (view ≡ record { kept = kept; failures = failures + 1; status = unloaded; in_group = false }))
 
 -- each keep has such a node, given by what it begins with and by its store; `kept` gives the record
 -- of a keep, and `failures` the count of its failed calls
@@ -184,7 +186,7 @@ with_store old k view = record { weights = old.weights; event_limit = old.event_
 -- the keep has made the change, and the event is taken
 abbrev pub with_event : {V : Type 0} → SwitchView V → ℕ → StoreView V → Option (Change V) → Event V → SwitchView V
 with_event old k view change e =
-    record (with_store old k record { kept = changed_by view.kept change; failures = view.failures; status = view.status }) { history = old.history ++ e ∷ [] }
+    record (with_store old k (record view { kept = changed_by view.kept change })) { history = old.history ++ e ∷ [] }
 
 -- the event that is pending if the keep of a node that is up fails at this event; none for a
 -- restart, which stores nothing at such a node
@@ -199,7 +201,7 @@ pending_on_failure (Restart k) = None
 pub record FailsAt {V : Type 0} (old new : SwitchView V) (k : ℕ) (view : StoreView V) (change : Option (Change V)) (status_after : Status (Event V)) : Type 0 where
   pub kept : KeptPart V
   pub either : IsWithOrWithout view.kept change kept
-  pub rest : new ≡ with_store old k record { kept = kept; failures = view.failures + 1; status = status_after }
+  pub rest : new ≡ with_store old k record { kept = kept; failures = view.failures + 1; status = status_after; in_group = view.in_group }
 
 -- an event that meets no fault is taken, and x is the world after it; or an allocation failed, or
 -- the keep failed
@@ -237,14 +239,14 @@ pub record IsRecovered {V : Type 0} (size : V → ℕ) (old new : SwitchView V) 
     event_limit = old.event_limit;
     begins = old.begins;
     history = recovered_history old e k;
-    stores = slice_set old.stores k record { kept = kept; failures = view.failures; status = up };
+    stores = slice_set old.stores k (record view { kept = kept; status = up });
   }
 
 -- an allocation failed: everything but the record is as before
 pub record StaysDownAt {V : Type 0} (old new : SwitchView V) (k : ℕ) (view : StoreView V) (change : Option (Change V)) : Type 0 where
   pub kept : KeptPart V
   pub either : IsWithOrWithout view.kept change kept
-  pub rest : new ≡ with_store old k record { kept = kept; failures = view.failures; status = view.status }
+  pub rest : new ≡ with_store old k (record view { kept = kept })
 
 -- node k is up again; or an allocation or the keep failed, and it stays down
 abbrev pub IsRecoveryOutcome : {V : Type 0} → (V → ℕ) → World V → SwitchView V → SwitchView V → ℕ → StoreView V → Option (Event V) → Result ℕ StepFault → Type 0
@@ -268,7 +270,7 @@ pub record IsLoadedAgain {V : Type 0} (size : V → ℕ) (old new : SwitchView V
     event_limit = old.event_limit;
     begins = slice_set old.begins k view.kept;
     history = old.history;
-    stores = slice_set old.stores k record { kept = view.kept; failures = view.failures; status = up };
+    stores = slice_set old.stores k (record view { status = up });
   }
   -- nodes that began so take the history too, each has its store, and the logs are as before
   pub world : World V
@@ -313,6 +315,42 @@ pub record Plays {V : Type 0} (size : V → ℕ) (old new : SwitchView V) (e : E
   pub is_after : world_of size old ≡ Ok world
   pub stores : AreStores size world old.stores
   pub effect : IsEffect size world old new e result
+
+-- Several packets at one node, whose changes are committed together.
+
+-- the switch with the changes of node k committed later, or not; the last argument is its store
+abbrev pub with_group_of : {V : Type 0} → SwitchView V → ℕ → Bool → Option (StoreView V) → SwitchView V
+with_group_of old k in_group None = old
+with_group_of old k in_group (Some view) = with_store old k (record view { in_group = in_group })
+
+abbrev pub with_group : {V : Type 0} → SwitchView V → ℕ → Bool → SwitchView V
+with_group old k in_group = with_group_of old k in_group (slice_get old.stores k)
+
+-- a packet that is addressed to node k is delivered, whatever the result; else it is left out
+abbrev pub DeliversOrLeaves : {V : Type 0} → (V → ℕ) → ℕ → SwitchView V → SwitchView V → ℕ → Type 0
+DeliversOrLeaves {V} size k old new number = ((result : Result ℕ StepFault) × Plays size old new (Deliver number) result)
+    ⊎ ((new ≡ old) × ((w : World V) → world_of size old ≡ Ok w → node_of w (Deliver number) ≢ Some k))
+
+-- the packets are delivered one after another
+abbrev pub DeliversInTurn : {V : Type 0} → (V → ℕ) → ℕ → SwitchView V → SwitchView V → List ℕ → Type 0
+DeliversInTurn size k old new [] = new ≡ old
+DeliversInTurn {V} size k old new (number ∷ numbers) = (between : SwitchView V) × DeliversOrLeaves size k old between number × DeliversInTurn size k between new numbers
+
+-- the commit at the end of a group: node k is up and all is committed; or it was down and stays so;
+-- or the commit failed, and the node is down with no pending event
+abbrev pub EndsGroupAt : {V : Type 0} → SwitchView V → SwitchView V → ℕ → StoreView V → Bool → Type 0
+EndsGroupAt old new k view true = (view.status ≡ up) × (new ≡ with_store old k (record view { in_group = false }))
+EndsGroupAt old new k view false = ((is_down view.status ≡ true) × (new ≡ with_store old k (record view { in_group = false })))
+    ⊎ ((view.status ≡ up) × FailsAt old new k (record view { in_group = false }) None (down None))
+
+-- packets are delivered at node k in turn, and their changes are committed together; `posted` counts
+-- all packets then
+pub record DeliversTogether {V : Type 0} (size : V → ℕ) (k : ℕ) (old new : SwitchView V) (packets : List ℕ) (posted : ℕ) (is_committed : Bool) : Type 0 where
+  pub between : SwitchView V
+  pub delivers : DeliversInTurn size k (with_group old k true) between packets
+  pub commits : (view : StoreView V) → slice_get between.stores k ≡ Some view → EndsGroupAt between new k view is_committed
+  pub no_node : slice_get between.stores k ≡ None → new ≡ between
+  pub counted : posted ≡ length (packets_after (world_of size new))
 
 -- At the restart of a node that is down, its pending event is taken first.
 

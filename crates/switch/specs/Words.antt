@@ -5,7 +5,7 @@ pub use Rattle.net.specs.Staged.{StagedEvent, HasSpareCapacity, IsStaged, IsTake
 pub use Rattle.net.specs.KeptPart.{change_of, kept_part, node_of}
 pub use Rattle.net.specs.History.{AreOfWorld, History, first_world, world_of as world_of_taken}
 pub use Rattle.net.specs.Resumed.{IsIdle}
-pub use Rattle.net.specs.World.{World, event_result, events_result, log_after}
+pub use Rattle.net.specs.World.{World, event_result, events_result, log_after, packets_after}
 pub use Rattle.net.specs.declared.event.Event.{Event}
 pub use Rattle.net.specs.declared.event.Event.TheVariants.{Begin, Deliver, Offer, Restart}
 pub use Rattle.net.specs.declared.fault.StepFault.{StepFault}

@@ -16,4 +16,5 @@ mod node_store;
 mod restart;
 mod switch;
 
+pub use events::Delivered;
 pub use switch::Switch;

@@ -172,11 +172,12 @@ impl<V: Value, K: Keep<V>> Switch<V, K> {
     }
 }
 
-/// Creates the stores of nodes that are up, with their keeps.
+/// Creates the stores of new nodes, with their keeps.
 fn new_stores<V: Value, K: Keep<V>>(
     alloc: Global,
     keeps: Vec<K>,
 ) -> Result<Vec<NodeStore<V, K>>, AllocError>
+    requires { AllByRecursion (λ keep. K.kept keep ≡ new_kept) keeps.items }
     ensures { IfOk result (λ stores. stores.items ≡ new_stores K.kept K.failures keeps.items) }
 {
     let mut stores = Vec::new(alloc);

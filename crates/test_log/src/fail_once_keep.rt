@@ -1,6 +1,6 @@
 //! A keep that fails at one of its calls, three nodes of which the first uses it, and entries of
 //! texts.
-ghost use Rattle.std.specs.Prelude.{◌≡◌, ◌+◌};
+ghost use Rattle.std.specs.Prelude.{◌≡◌, ◌+◌, true};
 ghost use Rattle.synod.specs.Record.{new_kept};
 
 use bytes::Bytes;
@@ -50,6 +50,8 @@ impl FailOnceKeep {
 impl Keep<Carried> for FailOnceKeep {
     ghost kept = { λ s. ⟦<MemoryKeep<Carried> as Keep<Carried>>⟧.kept s.keep };
 
+    ghost is_committed = { λ _. true };
+
     ghost failures = { λ s. s.failures.count + ⟦<MemoryKeep<Carried> as Keep<Carried>>⟧.failures s.keep };
 
     fn store(&mut self, change: &Change<Carried>) -> Result<(), Failed> {
@@ -58,6 +60,14 @@ impl Keep<Carried> for FailOnceKeep {
         }
         if self.leaves_new && self.keep.store(change).is_err() {
             return Err(Failed);
+        }
+        self.failures.tick();
+        Err(Failed)
+    }
+
+    fn commit(&mut self) -> Result<(), Failed> {
+        if !fails_now(&mut self.calls_left) {
+            return self.keep.commit();
         }
         self.failures.tick();
         Err(Failed)

@@ -4,7 +4,7 @@
 //!
 //! Each cell applies the entries of its node's log, which ends at the first gap, and cells compare
 //! as the counts of their statements do. They also compare so if the keep of node 0 fails at one of
-//! its first 18 calls and the node restarts after any step.
+//! its first 36 calls and the node restarts after any step.
 
 use crate::fail_once_keep::{FailOnceKeep, entry, make_three_nodes, restart_first_node};
 use cluster::{
@@ -190,7 +190,7 @@ fn ahead_by_count(one: &NodeCell, other: &NodeCell) -> Ahead {
 #[test]
 fn cells_agree_after_each_failure(rt: HostRuntime) {
     for restart in 0..STEPS.len() {
-        for calls in 0..18 {
+        for calls in 0..36 {
             let old = agrees(rt.alloc(), Some(calls), false, restart);
             let new = agrees(rt.alloc(), Some(calls), true, restart);
             assert!(rt;

@@ -1,6 +1,6 @@
 //! A node whose keep fails is down until it restarts. A keep in memory keeps an entry at any slot.
 use crate::fail_once_keep::{FailOnceKeep, make_three_nodes, restart_first_node};
-use cluster::{MemoryKeep, NodeCell, Switch, begin_on};
+use cluster::{Delivered, MemoryKeep, NodeCell, Switch, begin_on};
 use net::{Event, StepFault};
 use slots::SLOTS;
 use std::alloc::Global;
@@ -105,6 +105,45 @@ fn restarts_twice(switch: &mut Switch<Carried, FailOnceKeep>, cells: &mut Vec<No
     restart_first_node(switch, cells) == Err(StepFault::Device)
         && restart_first_node(switch, cells) == Ok(2)
         && matches!(switch.history(), [Event::Restart(0)])
+}
+
+#[test]
+fn a_commit_fails(rt: HostRuntime) {
+    assert!(rt; commit_fails(rt.alloc()) == Ok(true));
+}
+
+/// Returns whether the first node is down after the commit of a group fails, and has the changes of
+/// the group after it restarts.
+fn commit_fails(alloc: Global) -> Result<bool, StepFault> {
+    let (mut switch, mut cells) = make_three_nodes(
+        alloc,
+        FailOnceKeep::new(alloc, Some(3), false),
+    )?;
+    let failed = goes_down_at_commit(&mut switch, &mut cells);
+    drop(cells);
+    drop(switch);
+    Ok(failed)
+}
+
+/// Returns whether the commit after the first node promised its own ballot fails, and the node
+/// refuses that ballot once it is up again.
+fn goes_down_at_commit(
+    switch: &mut Switch<Carried, FailOnceKeep>,
+    cells: &mut Vec<NodeCell>,
+) -> bool {
+    let failed = Delivered {
+        posted: 4,
+        is_committed: false,
+    };
+    let refused = Delivered {
+        posted: 7,
+        is_committed: true,
+    };
+    begin_on(switch, 0) == Ok(3)
+        && switch.deliver_all(0, &[0]) == failed
+        && begin_on(switch, 0) == Err(StepFault::Down)
+        && restart_first_node(switch, cells) == Ok(6)
+        && switch.deliver_all(0, &[0]) == refused
 }
 
 /// Slots of the first page of 256 and of later pages, up to the last slot.

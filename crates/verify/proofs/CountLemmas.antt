@@ -1,5 +1,5 @@
 -- What a citation of an assertion counts when the results are lists of numbers.
-use Rattle.verify.proofs.Words.{◌≡◌, ℕ, ◌+◌, ◌-◌, ◌<◌, ◌≤◌, Bool, true, false, cond, List, [], ◌∷◌, length, map, drop, take, get_or, slice_get, Option, Some, None, refl, sym, ◌∙◌, ap, subst, arith, nat_tests, nat_le, length-map, length-drop, drop-map, take-map, slice_get_within, get_or_from_slice_get, some-same, Name, Stmt, Expr, Database, stmt_at, before, expr_of, is_assertion, is_variable, hypotheses, mandatory_groups, with_result, name_at, decode, code_of, code-name, Images, image, applied, CodeImages, code_apply, images_of_names, image-named, image-unnamed, are_groups_disjoint, AreImagesOfVariables, premises, Carries, HasAssertion, HasFloat, HasLegalProperties, IsWellTyped, IsViewOf, AssertionView, Float, IsNumberedHypothesis, IsTyped, AreRead, HypothesesMatch, Cite, Results, State, named, AreNamed, MayCite, HeldResults, TellsDisjoint, Adds, below, top, weight_limit}
+use Rattle.verify.proofs.Words.{◌≡◌, ℕ, ◌+◌, ◌-◌, ◌<◌, ◌≤◌, Bool, true, false, true≢false, cond, List, [], ◌∷◌, length, map, drop, take, get_or, slice_get, Option, Some, None, refl, sym, ◌∙◌, ap, subst, arith, nat_tests, nat_le, length-map, length-drop, drop-map, take-map, slice_get_within, get_or_from_slice_get, some-same, Name, Stmt, Expr, Database, stmt_at, before, expr_of, is_assertion, is_variable, hypotheses, mandatory_groups, with_result, name_at, decode, code_of, code-name, Images, image, applied, CodeImages, code_apply, images_of_names, image-named, image-unnamed, are_groups_disjoint, AreImagesOfVariables, premises, Carries, HasAssertion, HasFloat, HasLegalProperties, IsWellTyped, IsViewOf, AssertionView, Float, IsNumberedHypothesis, IsTyped, AreRead, HypothesesMatch, Cite, Results, State, named, AreNamed, MayCite, HeldResults, TellsDisjoint, Adds, below, top, weight_limit}
 use Rattle.mm_read.specs.declared.stmt.Stmt.TheVariants as stmt
 use Rattle.frame.specs.Sizes.{assertion_size}
 use Rattle.frame.specs.DisjointWork.{disjointness}
@@ -11,8 +11,8 @@ use Rattle.verify.proofs.Named.{all-drop, length-top, named-result}
 use Rattle.verify.proofs.RequiredHypotheses.{At, required-lengths, required-at, float-at, float-number}
 use Rattle.verify.proofs.WorkLemmas.{assertion-found, before-before, does-fit, images-same, not-fit, premises-same}
 use Rattle.verify.proofs.LabelTableLemmas.{has_with}
-use Rattle.verify.specs.Counted.{HasCountedFit, HasCountedPairs, IsPastFit, IsPastPairs, is_past_with, outcome_of}
-use Rattle.verify.specs.Metered.{Metered, metered, with_work}
+use Rattle.verify.specs.Counted.{HasCountedFit, HasCountedPairs, IsPastFit, IsPastPairs, IsPastResult, is_past_with, outcome_of}
+use Rattle.verify.specs.Metered.{Metered, is_over, metered, with_work}
 use Rattle.verify.specs.RunsItemByNumber.{IsCitedView}
 use Rattle.verify.specs.declared.citation.ProofContext.{ProofContext}
 use Rattle.verify.specs.Work.{Outcome, conclude, fault, pushed, step}
@@ -224,8 +224,8 @@ module _ (t : ProofContext) (a : ℕ) (old : HeldResults) (may : MayCite t a old
     same-work : (label : Name) (s : Stmt) → Carries S a s label → pairs_work s ≡ pairs_work may.assertion.0
     same-work label s carries = ap pairs_work (some-same carries.stands may.assertion.1.0)
 
-    -- they fit, and the meter is past its limit with their disjointness
-    pub fit-past : IsPastPairs t a ρ m → IsPastFit t a old m
+    -- they fit, and beside the results the meter is past its limit with their disjointness
+    pub fit-past : IsPastPairs t a ρ (with_work m old.results.weight) → IsPastFit t a old m
     fit-past past = record {
       extra = pairs_work may.assertion.0;
       past = past may.assertion.0 may.assertion.1.0;
@@ -260,4 +260,27 @@ module _ (t : ProofContext) (a : ℕ) (old : HeldResults) (may : MayCite t a old
           done-counted S names t.at a s c may.ready.legal (may.ready.legal.well_typed a s has) (cited s carries.stands) label carries has.1 may.earlier old.results may.named ρ many read fits
           (sym (disjoint s carries.stands)) ok new.results light same adds
           ∙ ap (λ w. outcome_of (1 + assertion_size (before S a) s + w) ok names old.results new.results) (same-work label s carries);
+    }
+
+    -- they fit, images are disjoint, and beside the results the meter is past its limit with the
+    -- result too
+    pub fit-heavy : HasCountedPairs t a ρ m m' → TellsDisjoint t a ρ true → (held : HeldResults) → held.results ≡ old.results → IsPastResult held.results.weight (code_apply ρ c.conclusion.now) m' → IsPastFit t a old m
+    fit-heavy pairs disjoint held same past = record {
+      extra = pairs_work may.assertion.0 + length (code_apply ρ c.conclusion.now);
+      past =
+          let n = length (code_apply ρ c.conclusion.now) in
+          let w = pairs_work may.assertion.0 in
+          let weight : held.results.weight ≡ old.results.weight = ap (λ (r : Results ℕ). r.weight) same in
+          let e : m.count + w + (held.results.weight + n) ≡ m.count + old.results.weight + (w + n) = omega (arith, weight) in
+          subst (λ k. is_over m.limit k ≡ true) e (subst (λ x. is_past_with x (held.results.weight + n) ≡ true) (pairs may.assertion.0 may.assertion.1.0) past.past);
+      within = λ label s carries.
+          let has = one label s carries in
+          let after = with_result old.results (below (length c.hypotheses) old.results.stack) (code_apply ρ c.conclusion.now) in
+          let weight : held.results.weight ≡ old.results.weight = ap (λ (r : Results ℕ). r.weight) same in
+          let low = past.light in
+          let done = ap (λ (o : Outcome). o.work)
+          (done-counted S names t.at a s c may.ready.legal (may.ready.legal.well_typed a s has) (cited s carries.stands) label carries has.1 may.earlier old.results may.named ρ many read fits
+          (sym (disjoint s carries.stands)) true after (omega (arith, weight, low)) (λ f. absurd (true≢false f)) refl) in
+          let work = same-work label s carries in
+          omega (arith, done, work);
     }

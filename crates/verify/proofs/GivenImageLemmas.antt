@@ -1,15 +1,11 @@
 -- Images are read from results from the last hypothesis back, whatever the results begin with.
-use Rattle.verify.proofs.Words.{◌≡◌, ℕ, suc, ◌<◌, nat_eq, Bool, true, false, cond, List, [], length, map, drop, get_or, slice_get, Some, refl, sym, ◌∙◌, ap, slice_get_within, get_or_from_slice_get, lookup, code_image, CodeImages, SymbolRange, symbols_in, images_at, Hypothesis, Float, Essential}
+use Rattle.verify.proofs.Words.{◌≡◌, ℕ, suc, ◌<◌, nat_eq, Bool, true, false, cond, List, length, map, drop, get_or, slice_get, Some, refl, sym, ◌∙◌, ap, slice_get_within, get_or_from_slice_get, lookup, code_image, CodeImages, SymbolRange, symbols_in, images_at, Hypothesis, Float, Essential}
 use Rattle.std.proofs.Math.Seq.{drop-cons}
 use Rattle.subst.proofs.ImageRangesLemmas.{by_place, image-by_place}
 use Rattle.verify.specs.HypothesisResults.{AreGiven, code_images_read}
 
 abbrev pub no_range : SymbolRange
 no_range = record { start = 0; end = 0 }
-
--- before any hypothesis is read no symbol has an image
-pub given-none : (symbols : List ℕ) (hs : List Hypothesis) (places : List SymbolRange) (images : List (ℕ × SymbolRange)) → hs ≡ [] → images ≡ [] → AreGiven hs (map (symbols_in symbols) places) (images_at symbols images)
-given-none symbols hs places images none empty = rw (none, empty) (record { each = λ x. refl })
 
 module _ (symbols : List ℕ) (hs : List Hypothesis) (places : List SymbolRange) (k : ℕ) (inside : k < length places) (old new : List (ℕ × SymbolRange))
     (after : AreGiven (drop (suc k) hs) (map (symbols_in symbols) (drop (suc k) places)) (images_at symbols old)) where

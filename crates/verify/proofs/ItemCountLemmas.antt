@@ -6,8 +6,8 @@ use Rattle.frame.specs.Sizes.{assertion_size}
 use Rattle.verify.proofs.CountLemmas.{fault-is, outcome-same, pushed-is, with-none}
 use Rattle.verify.proofs.Named.{get-map-on, named-mark}
 use Rattle.verify.proofs.WorkLemmas.{hypothesis-found, nothing-found}
-use Rattle.verify.specs.Counted.{Gives, HasCountedEntry, HasCountedFit, HasCountedItem, IsPastEntry, IsPastFit, outcome_of}
-use Rattle.verify.specs.Metered.{Metered, is_past, metered, with_work}
+use Rattle.verify.specs.Counted.{Gives, HasCountedEntry, HasCountedFit, HasCountedItem, IsPastEntry, IsPastFit, is_past_beside, outcome_of}
+use Rattle.verify.specs.Metered.{Metered, is_over, metered, with_work}
 use Rattle.verify.specs.RunsItemByNumber.{IsReady}
 use Rattle.verify.specs.Work.{mark, pushed, recall}
 use Rattle.verify.specs.declared.citation.ProofContext.{ProofContext}
@@ -53,12 +53,14 @@ module _ (t : ProofContext) (old new : HeldResults) (m m' : Metered) where
         fit.gives label entry.0 entry.1 ∙ ap (λ k. outcome_of k ok names old.results new.results) cost;
   }
 
-  -- with its size and a part of the rest the meter is past its limit
+  -- beside the results, with its size and a part of the rest the meter is past its limit
   pub past-entry : (a : ℕ) (size : ℕ) (after : Metered) → after ≡ with_work m size → ((s : Stmt) → stmt_at S a ≡ Some s → size ≡ assertion_size (before S a) s)
       → IsPastFit t a old after → IsPastEntry t (Assertion a) old m
   past-entry a size after sized is fit = λ label entry. record {
     extra = size + fit.extra;
-    past = subst (λ x. is_past x ≡ true) (ap (λ x. with_work x fit.extra) sized ∙ more-work m size fit.extra) fit.past;
+    past =
+        let e : m.count + size + old.results.weight + fit.extra ≡ m.count + old.results.weight + (size + fit.extra) = omega arith in
+        subst (λ n. is_over m.limit n ≡ true) e (subst (λ x. is_past_beside old x fit.extra ≡ true) sized fit.past);
     within = let e = is entry.0 entry.1.stands in let least = fit.within label entry.0 entry.1 in omega (arith, e, least);
   }
 

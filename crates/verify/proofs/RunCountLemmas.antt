@@ -1,12 +1,12 @@
 -- What a run over the items of a proof counts.
-use Rattle.verify.proofs.Words.{◌≡◌, ℕ, ◌+◌, ◌<◌, ◌≤◌, Bool, true, false, List, [], ◌∷◌, ◌++◌, length, map, take, drop, get_or, Option, Some, None, sym, ◌∙◌, ap, subst, arith, nat_tests, append-nil, append_assoc, map-append, take-append-drop, drop_more, Name, Database, Item, State, start, named, HeldResults, IsKept, RunsItemByNumber, HasLegalProperties, item_of, items_of, Results}
+use Rattle.verify.proofs.Words.{◌≡◌, ℕ, ◌+◌, ◌-◌, ◌<◌, ◌≤◌, Bool, true, false, List, [], ◌∷◌, ◌++◌, length, map, take, drop, get_or, sym, ◌∙◌, ap, subst, arith, append-nil, append_assoc, map-append, take-append-drop, drop_more, Name, Database, Item, State, start, named, HeldResults, IsKept, RunsItemByNumber, HasLegalProperties, item_of, items_of, Results}
 use Rattle.std.specs.Option.{option_map_or}
 use Rattle.verify.proofs.CountLemmas.{with-none}
 use Rattle.subst.proofs.PastLemmas.{past-more}
 use Rattle.verify.proofs.Decide.{steps_weight}
 use Rattle.verify.proofs.ItemCountLemmas.{more-work}
 use Rattle.verify.specs.Counted.{HasCountedItem, done_if}
-use Rattle.verify.specs.Metered.{Metered, is_over, is_past, with_work}
+use Rattle.verify.specs.Metered.{Metered, is_past, metered, with_work}
 use Rattle.verify.specs.Work.{items_work, step}
 use Rattle.verify.specs.declared.citation.ProofContext.{ProofContext}
 
@@ -63,16 +63,19 @@ pub run-short : (D : Database) (items : List Item) (item : Item) (rest : List It
 run-short D items item rest st m0 m extra run within past =
     subst (λ x. is_past x ≡ true) (run.each (item ∷ rest)) (past-with m extra (items_work D (item ∷ rest) st) (omega (arith, within)) past)
 
--- an item that was counted in three parts
-pub all-parts : (t : ProofContext) (item : Item) (old new : HeldResults) (m m' one all : Metered) (grown : ℕ) (ok : Bool) (counted : HasCountedItem t item old new m m' ok) → one ≡ with_work m' 1 → all ≡ with_work one grown
-    → all ≡ with_work m (1 + counted.extra + grown)
-all-parts t item old new m m' one all grown ok counted p q =
-    q
-    ∙ (ap (λ x. with_work x grown) (p ∙ (ap (λ x. with_work x 1) counted.metered ∙ more-work m counted.extra 1))
-    ∙ (more-work m (counted.extra + 1) grown ∙ (let e : counted.extra + 1 + grown ≡ 1 + counted.extra + grown = omega arith in ap (with_work m) e)))
-
 -- the weight of the results never falls
 pub weight-grows : (S : Database) (at : ℕ) (names : List Name) (legal : HasLegalProperties S names) (item : Item) (old new : HeldResults) (ok : Bool) → RunsItemByNumber ok S at names item old.results new.results → IsKept ok old new
     → old.results.weight ≤ new.results.weight
 weight-grows S at names legal item old new true runs kept = steps_weight S at (legal.single at) legal.once (named names old.results) (named names new.results) item runs.0
 weight-grows S at names legal item old new false runs kept = let w = ap (λ (r : Results ℕ). r.weight) kept.0 in omega (arith, w)
+
+-- what an item counts beside the items so far and the weight of the results
+pub one-item : (t : ProofContext) (item : Item) (old new : HeldResults) (m m' : Metered) (ok : Bool) (i : ℕ) (counted : HasCountedItem t item old new m m' ok) → old.results.weight ≤ new.results.weight
+    → with_work m' (i + 1 + new.results.weight) ≡ with_work (with_work m (i + old.results.weight)) (1 + counted.extra + (new.results.weight - old.results.weight))
+one-item t item old new m m' ok i counted grows =
+    let e : m.count + counted.extra + (i + 1 + new.results.weight) ≡ m.count + (i + old.results.weight) + (1 + counted.extra + (new.results.weight - old.results.weight)) = omega (arith, grows) in
+    ap (λ x. with_work x (i + 1 + new.results.weight)) counted.metered ∙ ap (λ n. metered n m.limit) e
+
+-- what passes the limit beside the weight of the results passes it beside the items too
+pub past-beside : (m : Metered) (i w x : ℕ) → is_past (with_work (with_work m w) x) ≡ true → is_past (with_work (with_work m (i + w)) x) ≡ true
+past-beside m i w x h = past-more m.limit (m.count + w + x) (m.count + (i + w) + x) (omega arith) h

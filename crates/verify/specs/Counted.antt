@@ -2,7 +2,7 @@
 -- Source: this project's profile (docs/COSTS.md).
 -- The definition is a recursion on the items over expressions; the code counts while it runs over
 -- ranges of one buffer.
-use Rattle.std.specs.Prelude.{◌≡◌, ℕ, ◌+◌, ◌-◌, ◌≤◌, Bool, true, false, IsTrue, List, [], filter, take, Option, Some, None}
+use Rattle.std.specs.Prelude.{◌≡◌, ℕ, ◌+◌, ◌-◌, ◌≤◌, Bool, true, false, IsTrue, List, [], filter, length, take, Option, Some, None}
 use Rattle.verify.specs.Words.{Database, Name, Stmt, before, CodeImages, images_of_names, Carries, Item, Cite, stmt_at}
 use Rattle.frame.specs.MandatoryPairs.{AreReordered, has_two_or_more_items}
 use Rattle.frame.specs.NumberedWork.{lists_work, read_all}
@@ -17,6 +17,7 @@ use Rattle.verify.specs.declared.label_table.LabelEntry.{LabelEntry}
 use Rattle.verify.specs.Machine.{Results, State, start}
 use Rattle.verify.specs.Metered.{Metered, is_past, with_work}
 use Rattle.verify.specs.ResultPlaces.{HeldResults}
+use Rattle.verify.specs.Right.{weight_limit}
 use Rattle.verify.specs.RunsItemByNumber.{IsEntryIn, named}
 use Rattle.verify.specs.Work.{Outcome, items_work, proof_work, step}
 
@@ -76,6 +77,10 @@ pub record AreMadePast (over : ℕ → Bool) (v : Numbered) (σ : CodeImages) (l
 abbrev pub is_past_with : Metered → ℕ → Bool
 is_past_with m work = is_past (with_work m work)
 
+-- beside the weight of the results, the count of the meter is past its limit with this much more
+abbrev pub is_past_beside : HeldResults → Metered → ℕ → Bool
+is_past_beside held m work = is_past_with (with_work m held.results.weight) work
+
 -- ---- citations and items
 
 -- the disjointness of a citation of the assertion at a with these images was counted
@@ -116,17 +121,23 @@ HasCountedEntry context entry old new m m' ok = (label : Name) → IsEntryIn con
 abbrev pub item_work : ProofContext → Item → HeldResults → ℕ
 item_work context item old = (step (before context.frames.now.statements context.at) item (named context.frames.now.names old.results)).work
 
+-- behind results of this weight the result is not too heavy, and with its length the meter is past
+-- its limit
+pub record IsPastResult (weight : ℕ) (e : List ℕ) (m : Metered) : Type 0 where
+  pub light : weight + length e ≤ weight_limit
+  pub past : IsTrue (is_past_with m (weight + length e))
+
 -- with a part of what a citation of the assertion at a counts, besides 1 and its size, the meter is
 -- past its limit
 pub record IsPastFit (context : ProofContext) (a : ℕ) (old : HeldResults) (m : Metered) : Type 0 where
   pub extra : ℕ
-  pub past : IsTrue (is_past_with m extra)
+  pub past : IsTrue (is_past_beside old m extra)
   pub within : (label : Name) (s : Stmt) → Carries context.frames.now.statements a s label → 1 + assertion_size (before context.frames.now.statements a) s + extra ≤ item_work context (Cite label) old
 
 -- with a part of what the item counts the meter is past its limit
 pub record IsPastItem (context : ProofContext) (item : Item) (old : HeldResults) (m : Metered) : Type 0 where
   pub extra : ℕ
-  pub past : IsTrue (is_past_with m extra)
+  pub past : IsTrue (is_past_beside old m extra)
   pub within : extra ≤ item_work context item old
 
 -- the same for a label with this meaning

@@ -50,7 +50,8 @@ IsOutcome S at names items (outcome.Right results) =
     IsRight S at items × ((s : Stmt) → stmt_at S at ≡ Some s → map (decode names) results.results.stack ≡ expr_of s ∷ [])
 IsOutcome S at names items (outcome.Failed fails) = (IsRight S at items → ⊥) × IsFirstFailure S at names items fails
 
--- if the proof is right, the listener follows the walk over all items
+-- the listener follows the walk over the items that were done
 abbrev pub HasHeardAll : {L : Type 0} → (Walk → L → Type 0) → Numbered → ℕ → List Item → Outcome → L → Type 0
 HasHeardAll follows f at items (outcome.Right results) listener = follows (walk f at items results) listener
-HasHeardAll follows f at items (outcome.Failed fails) listener = Unit {0}
+HasHeardAll follows f at items (outcome.Failed (failure.Item item results)) listener = follows (walk f at (take item items) results) listener
+HasHeardAll follows f at items (outcome.Failed (failure.End results)) listener = follows (walk f at items results) listener

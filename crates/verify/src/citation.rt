@@ -7,6 +7,7 @@ ghost use Rattle.proof_code.specs.ItemNumbers.{item_of};
 ghost use Rattle.verify.specs.Counted.{HasCountedEntry, HasCountedFit, HasCountedItem};
 ghost use Rattle.verify.specs.Counted.{HasCountedPairs, IsPastEntry, IsPastFit, IsPastItem};
 ghost use Rattle.verify.specs.Counted.{IsPastPairs};
+ghost use Rattle.verify.specs.Metered.{with_work};
 ghost use Rattle.verify.specs.RunsItemByNumber.{AreEntriesIn, IsEntryIn, IsReady, MayCite};
 ghost use Rattle.verify.specs.RunsItemByNumber.{IsCitedView};
 ghost use Rattle.subst.specs.Images.{AreOver};
@@ -49,7 +50,8 @@ pub struct Buffers {
 /// result. Returns `false` if it cannot be cited. Counts its disjointness, if typecodes and `$e`
 /// fit.
 ///
-/// Errors: the meter is past its limit within the citation; an allocation fails.
+/// Errors: the meter is past its limit within the citation, by a row or by the result, which is then
+/// not written, the results counted too; an allocation fails.
 #[inline(always)]
 fn cite_by_view(
     context: &ProofContext<'_>,
@@ -80,7 +82,7 @@ fn cite_by_view(
     if !are_images_disjoint(context, position, cited, pair_buffer, results, meter)? {
         return Ok(false);
     }
-    Ok(results.apply(count, cited.conclusion)?)
+    results.apply(count, cited.conclusion, meter)
 }
 
 /// Returns whether the images that were read are disjoint by the mandatory pairs of an assertion,
@@ -103,12 +105,13 @@ fn are_images_disjoint(
     ensures disjoint { IfOk result (TellsDisjoint context.now position results.old.images) }
     ensures counted { OnOk result (HasCountedPairs context.now position results.old.images meter.old meter.new) }
     ensures costly { IfErr result (λ stop. stop ≡ Stop.TooCostly
-        → IsPastPairs context.now position results.old.images meter.old) }
+        → IsPastPairs context.now position results.old.images
+        (with_work meter.old results.old.results.weight)) }
 {
     if cited.pairs_listed {
         return results.are_disjoint(&context.pairs, &cited.pairs, meter);
     }
-    pair_buffer.begin(&cited.hypotheses)?;
+    pair_buffer.begin(&cited.hypotheses.copy())?;
     let cited_pairs = context.frames.active_pairs(position);
     results.are_made_disjoint(&context.pairs, &cited_pairs, pair_buffer, meter)
 }

@@ -1,7 +1,7 @@
 //! The run over the items of a proof, up to the first that cannot be done.
 
 ghost use Rattle.std.specs.Prelude.{◌≡◌, List, take, IfErr, IfOk, IfSome, IsTrue, MatchOption};
-ghost use Rattle.std.specs.Prelude.{Some};
+ghost use Rattle.std.specs.Prelude.{OnOk, Some, ◌+◌};
 ghost use Rattle.frame.specs.AtPosition.{HasLegalProperties};
 ghost use Rattle.mm_lex.specs.Alphabet.{Name};
 ghost use Rattle.mm_read.specs.declared.stmt.Stmt.{Stmt as Statement};
@@ -46,8 +46,9 @@ pub enum Outcome {
 /// each that was done, and returns how many were done. The table has the meaning of each label.
 /// Counts the items, also the one that cannot be done.
 ///
-/// Errors: the count is past the limit, behind an item or within a citation; an allocation fails, or
-/// the results would exceed the limit set by `Results::set_symbol_limit`.
+/// Errors: the meter is past its limit with the results, the sizes and the disjointness so far,
+/// behind an item or within a citation; an allocation fails, or the results would exceed the limit
+/// set by `Results::set_symbol_limit`.
 #[inline(always)]
 pub(crate) fn run_items<L: Listener>(
     context: &ProofContext<'_>,
@@ -76,18 +77,27 @@ pub(crate) fn run_items<L: Listener>(
 {
     buffers.results.start();
     for (done, number) in numbers.iter().enumerate() {
-        let weight = buffers.results.weight();
         let was_done = step(context, table, *number, buffers, meter, listener)?;
-        meter.add(1)?;
-        meter.add((buffers.results.weight() - weight) as u64)?;
-        if meter.is_past() {
+        if meter.is_past_with(buffers.results.weight() as u64) {
             return Err(Stop::TooCostly);
         }
         if !was_done {
+            count_items(meter, done + 1, &buffers.results)?;
             return Ok(done);
         }
     }
+    count_items(meter, numbers.len(), &buffers.results)?;
     Ok(numbers.len())
+}
+
+/// Counts so many items, each 1, and their results, which are the weight.
+///
+/// Errors: the count would be 2^64 or more.
+fn count_items(meter: &mut Meter, items: usize, results: &Results) -> Result<(), AllocError>
+    ensures { OnOk result (meter.new ≡ with_work meter.old (items + results.now.results.weight)) }
+{
+    meter.add(items as u64)?;
+    meter.add(results.weight() as u64)
 }
 
 /// Runs the items of a proof of the statement at that position, tells the listener of each that was

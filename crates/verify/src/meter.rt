@@ -55,13 +55,26 @@ impl Meter {
         Ok(())
     }
 
-    /// Returns how much more may be counted until the limit is passed, if there is a limit.
-    pub fn left(&self) -> Option<u64>
-        ensures { result ≡ left_of self.now }
+    /// Returns how much more may be counted behind this much until the limit is passed, if there is
+    /// a limit.
+    #[inline(always)]
+    pub fn left_after(&self, work: u64) -> Option<u64>
+        ensures { result ≡ left_of (with_work self.now work) }
     {
         match self.limit {
-            Some(limit) => Some(limit.saturating_sub(self.count)),
+            Some(limit) => Some(limit.saturating_sub(self.count).saturating_sub(work)),
             None => None,
+        }
+    }
+
+    /// Returns whether the count is past the limit with this much more.
+    #[inline(always)]
+    pub fn is_past_with(&self, work: u64) -> bool
+        ensures { result ≡ is_past (with_work self.now work) }
+    {
+        match self.limit {
+            Some(limit) => limit < self.count || limit - self.count < work,
+            None => false,
         }
     }
 

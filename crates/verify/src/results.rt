@@ -3,7 +3,7 @@
 ghost use Rattle.std.specs.Prelude.{take, List, ℕ, suc, ◌≡◌, ◌<◌, ◌≤◌, ◌↔◌, ◌∷◌, ◌++◌, [], length};
 ghost use Rattle.std.specs.Prelude.{slice_get, nat_eq, ◌==◌, Some, is_some, if◌then◌else◌, IfOk};
 ghost use Rattle.std.specs.Prelude.{IfSome, OnOk, OnErr, IsTrue, drop, get_or, map, true};
-ghost use Rattle.std.specs.Prelude.{IfErr, MatchOption};
+ghost use Rattle.std.specs.Prelude.{IfErr, MatchOption, false, ◌+◌};
 ghost use Rattle.frame.specs.AtPosition.{HasLegalProperties};
 ghost use Rattle.frame.specs.Below.{AllBelow, AreBelow};
 ghost use Rattle.frame.specs.ListsOfPairs.{is_numbered_pair};
@@ -19,7 +19,8 @@ ghost use Rattle.verify.specs.HypothesisResults.{LastResultsMatch, Reads, AreGiv
 ghost use Rattle.subst.specs.DisjointImages.{are_numbers_disjoint, image_named};
 ghost use Rattle.subst.specs.Violations.{IsViolation};
 ghost use Rattle.verify.specs.Counted.{AreMadePast, ArePastLists, HasCountedLists, HasCountedMade};
-ghost use Rattle.verify.specs.Counted.{is_past_with};
+ghost use Rattle.verify.specs.Counted.{IsPastResult, is_past_with};
+ghost use Rattle.verify.specs.Metered.{with_work};
 ghost use Rattle.verify.specs.ReadPlaces.{BeginsWith, ReadsAll, tail_of};
 ghost use Rattle.verify.specs.ResultPlaces.{Adds, IsKept, Marks, Recalls, below, top};
 ghost use Rattle.verify.specs.Right.{weight_limit};
@@ -33,7 +34,7 @@ use std::alloc::{AllocError, Global};
 use std::marker::Model;
 use subst::{
     Buffer, DisjointImages, DisjointViolation, ImageRanges, SYMBOLS_LIMIT, Stop, SymbolRange,
-    first_violation, range_between, symbols_at,
+    applied_len, first_violation, range_between, symbols_at,
 };
 
 /// The results of a proof so far, with their symbols in one buffer, and the images that were read
@@ -107,7 +108,7 @@ impl Results {
     ///
     /// Errors: an allocation fails, or the buffer would exceed the limit set by `set_symbol_limit`.
     /// Cost: its symbols.
-    #[inline(never)]
+    #[inline(always)]
     pub fn add(&mut self, expr: &[u32]) -> Result<bool, AllocError>
         ensures adds { IfOk result (λ ok. Adds ok self.old.results self.new.results self.old.results.stack expr.now) }
         ensures light { IfOk result (λ _. self.new.results.weight ≤ weight_limit) }
@@ -228,7 +229,8 @@ impl Results {
     /// Returns whether the images are disjoint by these lists of pairs, at the statement of the
     /// pairs: the image of the first variable of each list from those of the others. Counts them.
     ///
-    /// Errors: the meter is past its limit; an allocation fails. Cost: that of `disjointness::are_lists_disjoint`.
+    /// Errors: the meter is past its limit, the results counted too; an allocation fails. Cost: that
+    /// of `disjointness::are_lists_disjoint`.
     #[inline(always)]
     pub fn are_disjoint(
         &mut self,
@@ -243,15 +245,20 @@ impl Results {
         ensures disjoint { IfOk result (λ ok. ok ≡ are_numbered_lists_disjoint pairs.now self.old.images lists.now) }
         ensures counted { OnOk result (HasCountedLists pairs.now self.old.images lists.now meter.old meter.new) }
         ensures costly { IfErr result (λ stop. stop ≡ Stop.TooCostly
-            → ArePastLists (is_past_with meter.old) pairs.now self.old.images lists.now) }
+            → ArePastLists (is_past_with (with_work meter.old self.old.results.weight))
+            pairs.now self.old.images lists.now) }
     {
-        self.disjoint_images.begin_citation(meter.left());
+        if lists.len() == 0 {
+            return Ok(true);
+        }
+        self.disjoint_images
+            .begin_citation(meter.left_after(self.weight as u64));
         let all = are_lists_disjoint(
             &mut self.disjoint_images,
             pairs,
             self.symbols.as_slice(),
             &self.images,
-            lists,
+            &lists.copy(),
         );
         meter.add(self.disjoint_images.work())?;
         all
@@ -260,7 +267,8 @@ impl Results {
     /// Returns whether the images are disjoint by the mandatory pairs of an assertion, whose lists
     /// are made one by one: `cited` has the pairs there, and `made` its variables. Counts them.
     ///
-    /// Errors: the meter is past its limit; an allocation fails. Cost: that of `disjointness::are_made_lists_disjoint`.
+    /// Errors: the meter is past its limit, the results counted too; an allocation fails. Cost: that
+    /// of `disjointness::are_made_lists_disjoint`.
     pub fn are_made_disjoint(
         &mut self,
         pairs: &Pairs<'_>,
@@ -280,10 +288,11 @@ impl Results {
             (HasCountedMade pairs.now self.old.images
             (pair_lists (is_numbered_pair cited.now) [] made.old.variables) meter.old meter.new) }
         ensures costly { IfErr result (λ stop. stop ≡ Stop.TooCostly
-            → AreMadePast (is_past_with meter.old) pairs.now self.old.images
+            → AreMadePast (is_past_with (with_work meter.old self.old.results.weight)) pairs.now self.old.images
             (pair_lists (is_numbered_pair cited.now) [] made.old.variables)) }
     {
-        self.disjoint_images.begin_citation(meter.left());
+        self.disjoint_images
+            .begin_citation(meter.left_after(self.weight as u64));
         let all = are_made_lists_disjoint(
             &mut self.disjoint_images,
             pairs,
@@ -299,26 +308,33 @@ impl Results {
     /// Pops the last `count` results and pushes the expression with the images substituted, or
     /// returns `false` if the proof would be too heavy.
     ///
-    /// Errors: an allocation fails, or the buffer would exceed the limit set by `set_symbol_limit`.
-    /// Cost: the symbols of the expression, and those written.
+    /// Errors: the meter would be past its limit with this result and those before it; an
+    /// allocation fails, or the buffer would exceed the limit set by `set_symbol_limit`.
+    /// Cost: the symbols of the expression, and those written, of which there are at most as many
+    /// as the meter has left.
     #[inline(always)]
-    pub fn apply(&mut self, count: usize, expr: &[u32]) -> Result<bool, AllocError>
+    pub fn apply(&mut self, count: usize, expr: &[u32], meter: &Meter) -> Result<bool, Stop>
         requires { count ≤ length self.old.results.stack }
         ensures adds { IfOk result
             (λ ok. Adds ok self.old.results self.new.results (below count self.old.results.stack)
             (code_apply self.old.images expr.now)) }
         ensures light { IfOk result (λ _. self.new.results.weight ≤ weight_limit) }
         ensures kept { IfOk result (λ ok. IsKept ok self.old self.new) }
+        ensures costly { IfErr result (λ stop. stop ≡ Stop.TooCostly
+            → IsPastResult self.old.results.weight (code_apply self.old.images expr.now) meter.now) }
     {
         let keep = self.stack.len() - count;
         let start = self.symbols.len();
-        let room = (SYMBOLS_LIMIT - self.weight).min(self.symbols_limit.saturating_sub(start));
-        if !self.symbols.add_applied(&self.images, expr, room)? {
-            return if room < SYMBOLS_LIMIT - self.weight {
-                Err(AllocError)
-            } else {
-                Ok(false)
-            };
+        let room = self.symbols_limit.saturating_sub(start);
+        let limit = least(room.min(SYMBOLS_LIMIT - self.weight), meter, self.weight);
+        if !self.symbols.add_applied(&self.images, expr, limit)? {
+            return refusal(
+                self.symbols.as_slice(),
+                &self.images,
+                expr,
+                self.weight,
+                meter,
+            );
         }
         let place = range_between(start, self.symbols.len());
         self.weight += self.symbols.len() - start;
@@ -452,6 +468,49 @@ impl Results {
         }
         let place = self.stack[0];
         symbols_at(self.symbols.as_slice(), place) == expr
+    }
+}
+
+/// Returns how long a result may be behind results of this weight: no longer than the room, and
+/// than what the meter has left.
+#[inline(always)]
+fn least(room: usize, meter: &Meter, weight: usize) -> usize
+    ensures { result ≤ room }
+{
+    match meter.left_after(weight as u64) {
+        Some(left) => room.min(left as usize),
+        None => room,
+    }
+}
+
+/// Returns why a result is not pushed for which there is no room behind results of this weight:
+/// `false` if the proof would be too heavy.
+///
+/// Errors: `Stop::TooCostly` if the meter would be past its limit; else `Stop::Memory`. Cost: a
+/// look-up for each symbol of the expression.
+#[cold]
+#[inline(never)]
+fn refusal(
+    symbols: &[u32],
+    images: &ImageRanges,
+    expr: &[u32],
+    weight: usize,
+    meter: &Meter,
+) -> Result<bool, Stop>
+    requires inside { AreInside (length symbols.now) images.now }
+    requires light { weight ≤ weight_limit }
+    ensures heavy { IfOk result (λ ok. (ok ≡ false)
+        × (weight_limit < weight + length (code_apply (images_at symbols.now images.now) expr.now))) }
+    ensures costly { IfErr result (λ stop. stop ≡ Stop.TooCostly
+        → IsPastResult weight (code_apply (images_at symbols.now images.now) expr.now) meter.now) }
+{
+    let Some(len) = applied_len(symbols, images, expr, SYMBOLS_LIMIT - weight) else {
+        return Ok(false);
+    };
+    if meter.is_past_with((weight + len) as u64) {
+        Err(Stop::TooCostly)
+    } else {
+        Err(Stop::Memory)
     }
 }
 

@@ -1,5 +1,5 @@
 -- Where the judging of jobs ends: job by job, and at one place alone.
-use Rattle.verify_pool.proofs.Words.{◌≡◌, ℕ, zero, suc, ◌+◌, ◌<◌, ◌≤◌, Bool, true, false, IsTrue, Option, Some, None, refl, sym, ◌∙◌, ap, subst, arith, inl, inr, below_more, cases_lt, cases_order, Metered, is_over, is_past, with_work, Outcome, AllRight, Wrong, TooCostly, work_to, metered_to, IsRightTo, IsFirstWrong, IsFirstTooCostly, IsFirstStop, OneStop}
+use Rattle.verify_pool.proofs.Words.{◌≡◌, ℕ, zero, suc, ◌+◌, ◌<◌, ◌≤◌, Bool, true, false, IsTrue, Option, Some, None, refl, sym, ◌∙◌, ap, subst, arith, inl, inr, below_more, cases_lt, cases_order, Metered, is_over, is_past, with_work, AllRight, Wrong, TooCostly, work_to, metered_to, IsRightTo, IsFirstWrong, IsFirstTooCostly, OneStop}
 use Rattle.std.proofs.Common.{add_assoc, add-one, add-zero}
 use Rattle.std.proofs.lemmas.Bool.Decides.{nat_tests}
 
@@ -46,22 +46,6 @@ module _ (right : ℕ → Type 0) (works : ℕ → ℕ) (m : Metered) where
       let next = more k m1 m2 e f in
       subst (λ n. IsRightTo right works n m × (m2 ≡ metered_to works n m)) (sym (add-one k))
       (record { each = λ i less. below_more right k before.each here i (omega (arith, less)); within = ap is_past (sym next) ∙ within }, next)
-
-  -- a job that is not right
-  pub stops_wrong : (count k : ℕ) (m1 m2 : Metered) → k < count → IsRightTo right works k m → m1 ≡ metered_to works k m → (right k → ⊥) → m2 ≡ with_work m1 (works k) → is_past m2 ≡ false
-      → IsFirstStop right works count m m2 (Wrong k)
-  stops_wrong count k m1 m2 stands before e wrong f within =
-      let next = more k m1 m2 e f in
-      (record { stands = stands; before = before; wrong = wrong; within = ap is_past (sym next) ∙ within }, next)
-
-  -- a job that is too costly
-  pub stops_costly : (count k : ℕ) (m1 : Metered) → k < count → IsRightTo right works k m → m1 ≡ metered_to works k m → IsTrue (is_past (with_work m1 (works k)))
-      → IsFirstTooCostly right works count k m
-  stops_costly count k m1 stands before e past = record {
-    stands = stands;
-    before = before;
-    past = subst (λ n. IsTrue (is_past n)) (more k m1 (with_work m1 (works k)) e refl) past;
-  }
 
   -- the meter is past its limit with job k, and not up to more jobs
   never : (i k : ℕ) → i < k → IsTrue (is_past (metered_to works (suc i) m)) → is_past (metered_to works k m) ≡ false → ⊥

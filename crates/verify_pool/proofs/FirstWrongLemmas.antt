@@ -1,5 +1,5 @@
 -- The first job that is not right, by index and by job; there is at most one answer.
-use Rattle.verify_pool.proofs.Words.{◌≡◌, ℕ, zero, suc, ◌<◌, List, [], ◌∷◌, length, slice_get, Option, Some, None, Result, Ok, Err, IfOk, arith, sym, subst, refl, ◌∙◌, same_Some, slice_get_within, Database, IsAnswerTo, Job, IsRightJob, IsRightAt, IsWrongJobAt, IsFirstWrongJob, OneAnswer, inl, inr, ap, cases_order, Metered, Bool, true, false, is_over, is_past, metered_to, IsTrue, ◌+◌, work_to, IsFirstTooCostly, IsFirstWrong, IsRightTo}
+use Rattle.verify_pool.proofs.Words.{◌≡◌, ℕ, zero, suc, ◌<◌, List, [], ◌∷◌, length, slice_get, Some, None, Result, Ok, Err, IfOk, arith, sym, subst, refl, ◌∙◌, same_Some, slice_get_within, Database, IsAnswerTo, Job, IsRightJob, IsRightAt, IsFirstWrongJob, OneAnswer, inl, inr, ap, cases_order, Metered, true, false, is_over, is_past, metered_to, IsTrue, ◌+◌, work_to, IsFirstTooCostly, IsFirstWrong, IsRightTo}
 use Rattle.std.proofs.Common.{true≢false}
 use Rattle.verify.specs.Counted.{HasCountedAnswer}
 use Rattle.verify.specs.Right.{IsAnswerIfAny}

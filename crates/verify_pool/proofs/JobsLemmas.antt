@@ -1,5 +1,5 @@
 -- Jobs stay jobs when statements are appended; the last `$p` is the next job.
-use Rattle.verify_pool.proofs.Words.{◌≡◌, ℕ, zero, suc, ◌++◌, inl, inr, List, [], ◌∷◌, length, slice_get, Some, IsTrue, arith, sym, subst, ap, ◌∙◌, none-some, Database, Job, IsJob, AreJobs}
+use Rattle.verify_pool.proofs.Words.{◌≡◌, ℕ, zero, suc, ◌++◌, inl, inr, List, [], ◌∷◌, length, Some, IsTrue, arith, sym, subst, ap, ◌∙◌, none-some, Database, Job, IsJob, AreJobs}
 use Rattle.std.proofs.lemmas.List.{length-append}
 use Rattle.verify_pool.proofs.StripeLemmas.{get_added}
 use Rattle.mm_read.specs.declared.stmt.Stmt.{Stmt}

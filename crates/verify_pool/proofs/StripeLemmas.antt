@@ -1,5 +1,5 @@
 -- What a worker found out about its jobs, one after another.
-use Rattle.verify_pool.proofs.Words.{◌≡◌, ℕ, zero, suc, ◌+◌, ◌*◌, ◌/◌, ◌%◌, ◌<◌, ◌++◌, ◌⊎◌, inl, inr, false, List, [], ◌∷◌, length, slice_get, get_or, Some, Result, Ok, Err, refl, sym, subst, ap, arith, add-one, mod-lt, suc-mul, same_Some, none-some, slice_get_read, Found, IsFound, AreFound, AreFoundIn}
+use Rattle.verify_pool.proofs.Words.{◌≡◌, ℕ, zero, suc, ◌+◌, ◌*◌, ◌/◌, ◌%◌, ◌<◌, ◌++◌, ◌⊎◌, inl, inr, false, List, [], ◌∷◌, length, slice_get, get_or, Some, Result, Ok, Err, refl, sym, subst, ap, arith, mod-lt, suc-mul, same_Some, none-some, slice_get_read, Found, IsFound, AreFound, AreFoundIn}
 use Rattle.std.proofs.Common.{cond, is_ok, is_err}
 use Rattle.std.proofs.lemmas.Nat.{div-add-mod'}
 use Rattle.verify_pool.specs.declared.checkers.Worker.{Worker}

@@ -1,4 +1,6 @@
 //! The state of a node with its library, and the health of all nodes.
+ghost use Rattle.std.specs.Prelude.{◌↔◌, ◌<◌, IsTrue};
+
 use synod::NodeState;
 
 /// The state of a node, and how many entries of its log its library applied.
@@ -10,6 +12,16 @@ pub struct NodeStatus {
     pub applied: u32,
     /// Whether it is down because a call of its keep failed.
     pub is_down: bool,
+}
+
+impl NodeStatus {
+    /// Returns whether the node knows of entries that it has not learned: of values that it accepted,
+    /// or that it learned behind a gap.
+    pub fn is_recovering(&self) -> bool
+        ensures { IsTrue result ↔ (self.now.state.log_len < self.now.state.top) }
+    {
+        self.state.log_len < self.state.top
+    }
 }
 
 /// The state of each node, and how many events the nodes took.

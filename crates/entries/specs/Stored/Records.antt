@@ -1,26 +1,24 @@
 -- Statements in shared buffers: each has the items from where it begins up to where the next one
 -- begins. So appending to the buffers changes no statement, and the buffers can be truncated where
 -- a statement begins. No public clause cites it.
-use Rattle.std.specs.Prelude.{◌≡◌, ℕ, ◌+◌, ◌-◌, ◌<◌, ◌≤◌, ◌^◌, Bool, true, false, List, [], ◌∷◌, ◌++◌, length, map, slice_get, slice_range, get_or, nat_lt, Option, Some, None}
+use Rattle.std.specs.Prelude.{◌≡◌, ℕ, ◌+◌, ◌-◌, ◌*◌, ◌/◌, ◌%◌, ◌<◌, ◌≤◌, ◌^◌, Bool, true, false, ◌||◌, List, [], ◌∷◌, ◌++◌, length, map, slice_get, slice_range, get_or, nat_lt, Option, Some, None}
 use Rattle.entries.specs.declared.layout.Layout.{Layout}
-use Rattle.entries.specs.declared.layout.TheConstants.{COUNTS}
+use Rattle.entries.specs.declared.layout.TheConstants.{COUNTS, HALVES}
 use Rattle.entries.specs.declared.entries.Stored.{Stored}
 use Rattle.entries.specs.declared.statement_record.StatementRecord.{StatementRecord}
-use Rattle.entries.specs.declared.entry_header.StateBefore.{StateBefore}
 use Rattle.entries.specs.declared.entry_header.EntryHeader.{EntryHeader}
-use Rattle.entries.specs.declared.kind.Kind.{Kind}
 use Rattle.entries.specs.declared.buffer_part.BufferPart.{BufferPart}
 use Rattle.entries.specs.declared.parts.AssertionParts.{AssertionParts}
 use Rattle.entries.specs.Hypotheses.{decoded_hypothesis}
-use Rattle.entries.specs.Entries.{Entry, Assertion}
+use Rattle.entries.specs.Entries.{Entry}
 use Rattle.entries.specs.Stored.Spans.{cut, AreSpansIn}
 
 -- ---- the numbers of one statement
 
 -- the layout, from an index on, of the parts of h hypotheses, s symbols, g groups and p variables
--- of groups
-abbrev pub layout_of_counts : ℕ → ℕ → ℕ → ℕ → ℕ → Layout
-layout_of_counts from h s g p = record {
+-- of groups, for a statement of this size
+abbrev pub layout_of_counts : ℕ → ℕ → ℕ → ℕ → ℕ → ℕ → Layout
+layout_of_counts from h s g p size = record {
   typecodes = from;
   numbered_hypotheses = from + h;
   symbols = from + h + h;
@@ -28,47 +26,45 @@ layout_of_counts from h s g p = record {
   grouped_variables = from + h + h + s + h;
   end = from + h + h + s + h + p;
   group_count = g;
+  size = size;
 }
 
--- the layout of a statement's numbers: with parts, the first numbers are the counts of these;
--- without, all numbers are symbols
+-- the layout of a statement's numbers: with parts, the first numbers are the counts of these, and
+-- the halves of the size; without, all numbers are symbols
 abbrev pub layout_in : Bool → List ℕ → Layout
-layout_in true numbers = layout_of_counts COUNTS (get_or numbers 0 0) (get_or numbers 1 0) (get_or numbers 2 0) (get_or numbers 3 0)
-layout_in false numbers = layout_of_counts 0 0 (length numbers) 0 0
+layout_in true numbers = layout_of_counts COUNTS (get_or numbers 0 0) (get_or numbers 1 0) (get_or numbers 2 0) (get_or numbers 3 0) (get_or numbers 4 0 + get_or numbers 5 0 * HALVES)
+layout_in false numbers = layout_of_counts 0 0 (length numbers) 0 0 0
 
--- the counts that precede the parts
-abbrev pub counts_of : AssertionParts → List ℕ
-counts_of p = length p.hypotheses.now ∷ length p.symbols.now ∷ length p.groups.now ∷ length p.grouped_variables.now ∷ []
+-- the numbers that precede the parts of a statement of this size
+abbrev pub counts_of : ℕ → AssertionParts → List ℕ
+counts_of size p =
+    length p.hypotheses.now ∷ length p.symbols.now ∷ length p.groups.now ∷ length p.grouped_variables.now ∷ (size % HALVES) ∷ (size / HALVES) ∷ []
 
--- whether a statement is stored with parts: it has hypotheses or groups
-abbrev pub has_parts : AssertionParts → Bool
-has_parts p = nat_lt 0 (length p.hypotheses.now + length p.groups.now)
+-- whether a statement is stored with parts: it has a size, hypotheses or groups
+abbrev pub has_parts : ℕ → AssertionParts → Bool
+has_parts size p = nat_lt 0 size || nat_lt 0 (length p.hypotheses.now + length p.groups.now)
 
--- the numbers that a statement is stored as
-abbrev pub numbers_of : Bool → AssertionParts → List ℕ
-numbers_of true p = ((((counts_of p ++ p.typecodes.now) ++ p.numbered_hypotheses.now) ++ p.symbols.now) ++ p.hypotheses.now) ++ p.grouped_variables.now
-numbers_of false p = p.symbols.now
+-- the numbers that a statement of this size is stored as
+abbrev pub numbers_of : Bool → ℕ → AssertionParts → List ℕ
+numbers_of true size p = ((((counts_of size p ++ p.typecodes.now) ++ p.numbered_hypotheses.now) ++ p.symbols.now) ++ p.hypotheses.now) ++ p.grouped_variables.now
+numbers_of false size p = p.symbols.now
 
-abbrev pub record_by : Kind → ℕ → Bool → Bool → ℕ → ℕ → StatementRecord
-record_by kind size has_parts whole from groups = record { size = size; from = from; groups_from = groups; kind = kind; has_parts = has_parts; whole = whole }
+abbrev pub record_by : EntryHeader → Bool → Bool → ℕ → ℕ → StatementRecord
+record_by h has_parts whole from groups = record { from = from; kind = h.kind; has_parts = has_parts; whole = whole; groups_from = groups; before = h.before }
 
 -- the record of a statement with this header and these parts; its numbers begin at `from`, its
 -- groups at `groups`
 abbrev pub record_of : EntryHeader → AssertionParts → ℕ → ℕ → StatementRecord
-record_of h p from groups = record_by h.kind h.size (has_parts p) p.whole from groups
-
--- a statement without the state before it
-pub record Body : Type 0 where
-  pub kind : Kind
-  pub size : ℕ
-  pub symbols : List ℕ
-  pub assertion : Assertion
+record_of h p from groups = record_by h (has_parts h.size p) p.whole from groups
 
 -- the statement that is stored as this record, these numbers in this layout, and these groups
-abbrev pub body_by : StatementRecord → List ℕ → List BufferPart → Layout → Body
-body_by r numbers spans layout = record {
+abbrev pub entry_in : StatementRecord → List ℕ → List BufferPart → Layout → Entry
+entry_in r numbers spans layout = record {
   kind = r.kind;
-  size = r.size;
+  size = layout.size;
+  label_count = r.before.label_count;
+  symbol_count = r.before.symbol_count;
+  last_active = r.before.last_active;
   symbols = slice_range numbers layout.symbols layout.hypotheses;
   assertion = record {
     whole = r.whole;
@@ -79,11 +75,8 @@ body_by r numbers spans layout = record {
   };
 }
 
-abbrev pub body_of : StatementRecord → List ℕ → List BufferPart → Body
-body_of r numbers spans = body_by r numbers spans (layout_in r.has_parts numbers)
-
-abbrev pub with_state_before : Body → StateBefore → Entry
-with_state_before b k = record { kind = b.kind; size = b.size; label_count = k.label_count; symbol_count = k.symbol_count; last_active = k.last_active; symbols = b.symbols; assertion = b.assertion }
+abbrev pub entry_of : StatementRecord → List ℕ → List BufferPart → Entry
+entry_of r numbers spans = entry_in r numbers spans (layout_in r.has_parts numbers)
 
 -- ---- all statements
 
@@ -105,15 +98,10 @@ numbers_by numbers r next = slice_range numbers r.from (end_by numbers next)
 abbrev pub spans_by : List BufferPart → StatementRecord → Option StatementRecord → List BufferPart
 spans_by groups r next = slice_range groups r.groups_from (groups_by groups next)
 
-abbrev pub bodies_of : List ℕ → List BufferPart → List StatementRecord → List Body
-bodies_of numbers groups [] = []
-bodies_of numbers groups (r ∷ rs) = body_of r (numbers_by numbers r (slice_get rs 0)) (spans_by groups r (slice_get rs 0)) ∷ bodies_of numbers groups rs
-
--- the statements, each with the state before it
-abbrev pub with_states_before : List Body → List StateBefore → List Entry
-with_states_before [] ks = []
-with_states_before (b ∷ bs) [] = []
-with_states_before (b ∷ bs) (k ∷ ks) = with_state_before b k ∷ with_states_before bs ks
+-- the statements that are stored as these records
+abbrev pub entries_of : List ℕ → List BufferPart → List StatementRecord → List Entry
+entries_of numbers groups [] = []
+entries_of numbers groups (r ∷ rs) = entry_of r (numbers_by numbers r (slice_get rs 0)) (spans_by groups r (slice_get rs 0)) ∷ entries_of numbers groups rs
 
 -- a statement's numbers are within the buffer, as many as its layout has
 pub record IsPlaced (numbers : List ℕ) (r : StatementRecord) (next : Option StatementRecord) : Type 0 where
@@ -156,4 +144,4 @@ pub record IsStored (found : Option Entry) (s : Stored) : Type 0 where
   pub ordered : IsOrdered s.layout
   pub whole : s.layout.end ≡ length s.numbers.now
   pub grouped : AreSpansIn (s.layout.end - s.layout.grouped_variables) s.groups.now
-  pub entry : found ≡ Some (with_state_before (body_by s.statement_record s.numbers.now s.groups.now s.layout) s.before)
+  pub entry : found ≡ Some (entry_in s.statement_record s.numbers.now s.groups.now s.layout)

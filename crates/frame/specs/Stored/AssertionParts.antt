@@ -1,14 +1,13 @@
 -- The parts of an assertion, by numbers.
 -- Internal to the code: no public clause cites it.
-use Rattle.std.specs.Prelude.{◌≡◌, ℕ, ◌-◌, ◌==◌, ◌&&◌, not, Bool, true, false, if◌then◌else◌, List, [], ◌∷◌, ◌++◌, map, filter, get_or, slice_get, Option, Some, None}
-use Rattle.frame.specs.Words.{has_name, Stmt, Expr, Database, expr_of, active, is_essential, Hypothesis, Kind, Float, Ess, Axiom, Prove, Entry, Assertion, list_any}
+use Rattle.std.specs.Prelude.{ℕ, ◌-◌, ◌==◌, ◌&&◌, not, Bool, false, if◌then◌else◌, List, [], ◌∷◌, ◌++◌, map, filter, get_or, slice_get, Option, Some, None}
+use Rattle.frame.specs.Words.{has_name, Stmt, Expr, Database, active, Hypothesis, Kind, Float, Entry, list_any}
 use Rattle.mm_read.specs.declared.stmt.Stmt.TheVariants as stmt
-use Rattle.frame.specs.FrameOf.{hypotheses}
 use Rattle.entries.specs.declared.assertion_view.Hypothesis.TheVariants as hypothesis
 use Rattle.frame.specs.AssertionView.{typecode_of}
 use Rattle.frame.specs.LastActive.{actives, is_disj}
 use Rattle.frame.specs.ListsOfPairs.{have_both}
-use Rattle.frame.specs.MandatoryPairs.{float_variables, has_two_or_more_items, pairs_by, AreReordered}
+use Rattle.frame.specs.MandatoryPairs.{float_variables, has_two_or_more_items, pairs_by}
 
 -- ---- hypotheses, groups and pairs
 
@@ -85,23 +84,3 @@ is_float_in e s = false
 -- the positions of the active `$f` of the symbols of the expression
 abbrev pub floats_in : Database → Expr → List ℕ
 floats_in S e = map (λ p. p.0) (filter (λ p. is_float_in e p.1) (active S))
-
--- the hypotheses that are kept with a statement: all mandatory ones, or the `$f` of its own
--- variables
-abbrev pub kept_with : Bool → Database → Stmt → List ℕ
-kept_with whole S s = if whole then hypotheses S s else floats_in S (expr_of s)
-
--- the statement s, which follows the statements S, is kept with the parts d
-pub record IsKeptAs (es : List Entry) (S : Database) (s : Stmt) (d : Assertion) : Type 0 where
-  pub hypotheses_kept : d.hypotheses ≡ kept_with d.whole S s
-  pub numbered_kept : d.numbered_hypotheses ≡ map (hypothesis_at es) d.hypotheses
-  pub typecodes_kept : d.typecodes ≡ map (typecode_at es) d.hypotheses
-  pub pairs_kept : d.whole ≡ true → AreReordered (stored_pairs es S d.numbered_hypotheses) d.groups
-  pub own_kept : is_essential s ≡ true → d.whole ≡ false
-
--- statements of the kind are kept with hypotheses
-abbrev pub has_parts : Kind → Bool
-has_parts Ess = true
-has_parts Axiom = true
-has_parts Prove = true
-has_parts kind = false

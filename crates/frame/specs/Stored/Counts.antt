@@ -1,12 +1,11 @@
 -- Numbers that stand for names, and what one more entry changes.
 -- Internal to the code: no public clause cites it.
-use Rattle.std.specs.Prelude.{◌≡◌, ℕ, ◌<◌, ◌^◌, true, false, List, [], ◌∷◌, ◌++◌, length, map, take, Option, Some, None}
-use Rattle.frame.specs.Words.{Name, Stmt, is_open, is_close, symbols_of, labels_of, LastActive, Kind, Open, Close, Const, Var, Disj, Float, Ess, Axiom, Prove, Entry, Extends}
+use Rattle.std.specs.Prelude.{◌≡◌, ℕ, ◌<◌, true, false, List, [], ◌∷◌, length, Option, Some, None}
+use Rattle.frame.specs.Words.{Stmt, is_open, is_close, LastActive, Kind, Open, Close, Const, Var, Disj, Float, Ess, Axiom, Prove, Entry, Extends}
 use Rattle.mm_read.specs.declared.stmt.Stmt.TheVariants as stmt
 use Rattle.frame.specs.declared.storage.Storage.{Storage}
 use Rattle.frame.specs.Below.{AreBelow}
 use Rattle.frame.specs.Stored.Labels.{is_labelled_kind}
-use Rattle.frame.specs.Stored.EntryMeanings.{stmt_of, names_in}
 use Rattle.frame.specs.Stored.Stacks.{KeepsUntil}
 
 -- ---- numbers that stand for names
@@ -25,26 +24,10 @@ abbrev pub AreNumbered : ℕ → ℕ → List Entry → Type 0
 AreNumbered n m [] = Unit {0}
 AreNumbered n m (e ∷ es) = AreBelow n e.symbols × IsLabelBelow e.kind e.label_count m × AreNumbered n m es × HasTwoSymbolsIfFloat e.kind e.symbols
 
--- the counts in the entry e, at index i, are those of the symbols and labels that earlier entries
--- declare; those entries use only numbers below these counts
-pub record KeepsCounts (names labels : List Name) (entries : List Entry) (i : ℕ) (e : Entry) : Type 0 where
-  pub numbered : AreNumbered e.symbol_count e.label_count (take i entries)
-  pub label_count : e.label_count ≡ length (labels_of (take i (map (stmt_of names labels) entries)))
-  pub name_count : e.symbol_count ≡ length (symbols_of (take i (map (stmt_of names labels) entries)))
-
 -- the statement neither opens nor closes a block
 abbrev pub IsPlain : Option Stmt → Type 0
 IsPlain None = ⊥
 IsPlain (Some s) = (is_open s ≡ false) × (is_close s ≡ false)
-
--- each number is 0
-abbrev pub AreZero : List ℕ → Type 0
-AreZero [] = Unit {0}
-AreZero (x ∷ xs) = (x ≡ 0) × AreZero xs
-
--- the new list is the old one, followed by zeros
-abbrev pub AreZeroAfter : List ℕ → List ℕ → Type 0
-AreZeroAfter old new = (more : List ℕ) × (new ≡ old ++ more) × AreZero more
 
 -- the kind of a statement
 abbrev pub kind_of : Stmt → Kind
@@ -66,19 +49,13 @@ next_last_active l at Var = record { block = l.block; essential = l.essential; v
 next_last_active l at Disj = record { block = l.block; essential = l.essential; variable = l.variable; disjoint = at }
 next_last_active l at kind = l
 
--- there are fewer than 2^31 names, and each has its last `$f`
-pub record HasRoom (k : Storage) : Type 0 where
-  pub count : length k.floats.items ≡ length (names_in k)
-  pub few : length (names_in k) < 2 ^ 31
-
 -- names and positions were appended; everything else is as before
 pub record HasMoreNames (old new : Storage) : Type 0 where
   pub numbering : Extends old.numbering new.numbering
-  pub floats : AreZeroAfter old.floats.items new.floats.items
   pub positions : Extends old.positions.items new.positions.items
-  pub replaced : new.replaced ≡ old.replaced
   pub ends : new.ends ≡ old.ends
   pub entries : new.entries ≡ old.entries
+  pub floats : new.floats ≡ old.floats
   pub disjoints : new.disjoints ≡ old.disjoints
   pub variables : new.variables ≡ old.variables
   pub last_active : new.last_active ≡ old.last_active
@@ -86,11 +63,10 @@ pub record HasMoreNames (old new : Storage) : Type 0 where
 -- the new storage may have more at its end: truncated, it is the old one
 pub record HasMoreAtEnd (old new : Storage) : Type 0 where
   pub numbering : Extends old.numbering new.numbering
-  pub floats : AreZeroAfter old.floats.items new.floats.items
   pub positions : Extends old.positions.items new.positions.items
-  pub replaced : Extends old.replaced.items new.replaced.items
   pub ends : Extends old.ends.items new.ends.items
   pub entries : new.entries ≡ old.entries
+  pub floats : KeepsUntil (length old.entries) old.floats new.floats
   pub disjoints : KeepsUntil (length old.entries) old.disjoints new.disjoints
   pub variables : KeepsUntil (length old.entries) old.variables new.variables
   pub last_active : new.last_active ≡ old.last_active

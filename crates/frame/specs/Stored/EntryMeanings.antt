@@ -1,7 +1,7 @@
 -- The meaning of an entry, and of the entries for the number of a symbol.
 -- Internal to the code: no public clause cites it.
-use Rattle.std.specs.Prelude.{◌≡◌, ℕ, ◌+◌, ◌<◌, ◌==◌, Bool, true, false, ◌&&◌, if◌then◌else◌, List, [], ◌∷◌, ◌++◌, length, map, slice_get, Option, Some, None}
-use Rattle.frame.specs.Words.{Name, Stmt, Expr, Database, stmt_at, before, label_of, declared_symbols, declared_labels, name_at, decode, Kind, Open, Close, Const, Var, Disj, Float, Ess, Axiom, Prove, Entry, IsLegal, AreVariableNumbers, symbols_after}
+use Rattle.std.specs.Prelude.{◌≡◌, ℕ, ◌+◌, ◌<◌, ◌==◌, Bool, true, false, ◌&&◌, if◌then◌else◌, List, [], ◌∷◌, length, map, slice_get, Option, Some, None}
+use Rattle.frame.specs.Words.{Name, Stmt, Expr, Database, stmt_at, before, label_of, declared_symbols, declared_labels, name_at, decode, Kind, Open, Close, Const, Var, Disj, Float, Ess, Axiom, Prove, Entry, Mention, mentions_of, IsLegal, AreVariableNumbers, symbols_after}
 use Rattle.mm_read.specs.declared.stmt.Stmt.TheVariants as stmt
 use Rattle.frame.specs.declared.storage.Storage.{Storage}
 use Rattle.frame.specs.Parts.{Numbered}
@@ -61,7 +61,7 @@ positions_from at (s ∷ S) = option_position (label_of s) at (positions_from (a
 abbrev pub AreAllLegal : Database → Type 0
 AreAllLegal S = (j : ℕ) (s : Stmt) → stmt_at S j ≡ Some s → IsLegal (before S j) s
 
--- ---- the last `$f` of a symbol, by its number
+-- ---- the `$f` of a symbol, by its number
 
 -- a `$f`
 abbrev pub is_float_kind : Kind → Bool
@@ -77,64 +77,24 @@ second_is c codes = false
 abbrev pub is_float_with : ℕ → Entry → Bool
 is_float_with c e = is_float_kind e.kind && second_is c e.symbols
 
--- the position of the last entry that passes the test, or `found`, if the first entry is at `at`
-abbrev pub last_from : (Entry → Bool) → ℕ → ℕ → List Entry → ℕ
-last_from test found at [] = found
-last_from test found at (e ∷ es) = last_from test (if test e then at else found) (at + 1) es
+-- the mention by a `$f` at a position
+abbrev pub float_mention : ℕ → Mention
+float_mention at = record { position = at; beneath = 0 }
 
--- the position of the last entry that passes the test, or 0
-abbrev pub last_where : (Entry → Bool) → List Entry → ℕ
-last_where test es = last_from test 0 1 es
+-- the mentions of the symbol c by the `$f` whose variable it is, if the first entry is at `at`
+abbrev pub floats_from : ℕ → ℕ → List Entry → List Mention
+floats_from c at [] = []
+floats_from c at (e ∷ es) = if is_float_with c e then float_mention at ∷ floats_from c (at + 1) es else floats_from c (at + 1) es
 
--- the position of the last `$f` of the symbol c, or 0
-abbrev pub last_float : List Entry → ℕ → ℕ
-last_float es c = last_where (is_float_with c) es
+-- the lists have, for each symbol, the `$f` whose variable it is
+abbrev pub AreFloatsOf : List Entry → List (List Mention) → Type 0
+AreFloatsOf es lists = (c : ℕ) → mentions_of lists c ≡ floats_from c 1 es
 
--- the list has, at each number c of a symbol, x c
-abbrev pub AreGivenBy : List ℕ → (ℕ → ℕ) → Type 0
-AreGivenBy floats x = (c : ℕ) → c < length floats → slice_get floats c ≡ Some (x c)
-
--- ---- the `$f` that a `$f` replaces
-
--- the variable of a `$f` with these symbols
-abbrev pub typed_by : Kind → List ℕ → Option ℕ
-typed_by Float (a ∷ c ∷ codes) = Some c
-typed_by kind codes = None
-
--- the number, if there is one, is below n
-abbrev pub IsBelowIfSome : ℕ → Option ℕ → Type 0
-IsBelowIfSome n None = Unit {0}
-IsBelowIfSome n (Some c) = c < n
-
--- the last `$f` of the symbol c after a `$f` at a position, if it was x
-abbrev pub with_float : Option ℕ → ℕ → ℕ → ℕ → ℕ
-with_float None at c x = x
-with_float (Some d) at c x = if c == d then at else x
-
--- the variable has its last `$f` at a position; the others have theirs as before
-abbrev pub AreTypedAt : Option ℕ → ℕ → List ℕ → List ℕ → Type 0
-AreTypedAt typed at old new = (c x : ℕ) → slice_get old c ≡ Some x → slice_get new c ≡ Some (with_float typed at c x)
-
--- the last `$f` of the variable, if there is one, where that of c is x c
-abbrev pub option_float : (ℕ → ℕ) → Option ℕ → List ℕ
-option_float x None = []
-option_float x (Some c) = x c ∷ []
-
--- each symbol has the last `$f` that x says, and those in `front` are replaced
-pub record AreRestored (x : ℕ → ℕ) (front floats replaced : List ℕ) : Type 0 where
-  pub given : AreGivenBy floats x
-  pub recorded : replaced ≡ front
-
--- the lists are again as they were before a `$f` with this variable was recorded at some position
-abbrev pub Restores : Option ℕ → List ℕ → List ℕ → List ℕ → List ℕ → Type 0
-Restores typed floats replaced restored left = (x : ℕ → ℕ) (at : ℕ) (front : List ℕ) → replaced ≡ front ++ option_float x typed
-    → AreGivenBy floats (λ c. with_float typed at c (x c)) → AreRestored x front restored left
-
--- the `$f` that the entries of a list replace, in order, after earlier entries
-abbrev pub replaced_after : List Entry → List Entry → List ℕ
-replaced_after before [] = []
-replaced_after before (e ∷ es) = option_float (last_float before) (typed_by e.kind e.symbols) ++ replaced_after (before ++ e ∷ []) es
-
--- the `$f` that the entries replace, in order
-abbrev pub replaced_of : List Entry → List ℕ
-replaced_of es = replaced_after [] es
+-- p is the position of the last `$f` whose variable is c, if the first entry is at `at`
+pub record IsLastFloat (c at : ℕ) (es : List Entry) (p : ℕ) : Type 0 where
+  pub place : ℕ
+  pub entry : Entry
+  pub found : slice_get es place ≡ Some entry
+  pub passes : is_float_with c entry ≡ true
+  pub is : p ≡ at + place
+  pub last : (j : ℕ) (x : Entry) → place < j → slice_get es j ≡ Some x → is_float_with c x ≡ false

@@ -1,13 +1,14 @@
 -- How the mandatory hypotheses are found: the active `$e`, and the `$f` of the symbols of these and
 -- of the assertion.
 -- Internal to the code: no public clause cites it.
-use Rattle.std.specs.Prelude.{◌≡◌, ℕ, ◌+◌, ◌-◌, ◌≤◌, ◌==◌, ◌⊎◌, Bool, true, false, List, [], ◌∷◌, length, map, slice_get, Option, Some, None}
-use Rattle.frame.specs.Words.{Database, is_active, is_essential, Kind, Float, Ess, Entry, Assertion, list_any}
+use Rattle.std.specs.Prelude.{◌≡◌, ℕ, ◌+◌, ◌-◌, ◌≤◌, ◌⊎◌, Bool, true, false, List, [], ◌∷◌, length, map, slice_get, take, Some}
+use Rattle.frame.specs.Words.{Stmt, Database, is_active, Kind, Float, Ess, Entry, Assertion}
+use Rattle.frame.specs.declared.storage.Storage.{Storage}
+use Rattle.frame.specs.FrameOf.{hypotheses}
 use Rattle.frame.specs.Ascending.{Ascends}
-use Rattle.frame.specs.LastActive.{actives}
-use Rattle.frame.specs.Stored.EntryMeanings.{is_float_with, last_where}
+use Rattle.frame.specs.Stored.EntryMeanings.{IsLastFloat, statements_of}
 use Rattle.frame.specs.MandatoryPairs.{AreReordered}
-use Rattle.frame.specs.Stored.AssertionParts.{stored_pairs, typecode_at, hypothesis_at}
+use Rattle.frame.specs.Stored.AssertionParts.{stored_pairs, symbols_at, typecode_at, hypothesis_at}
 
 -- ---- lists of positions
 
@@ -30,9 +31,12 @@ pub record HasMore (P : ℕ → Type 0) (old new : List ℕ) : Type 0 where
 
 -- p is the position of the last `$f` of the symbol c, which is active after all entries
 pub record IsFloatOf (es : List Entry) (S : Database) (c p : ℕ) : Type 0 where
-  pub last : p ≡ last_where (is_float_with c) es
-  pub some : p ≡ 0 → ⊥
+  pub last : IsLastFloat c 1 es p
   pub stands : is_active S p (length S + 1) ≡ true
+
+-- p is the position of the `$f` of the symbol c that is active after the first i statements
+abbrev pub IsFloatAfter : Storage → ℕ → ℕ → ℕ → Type 0
+IsFloatAfter k i c p = IsFloatOf (take i k.entries) (take i (statements_of k)) c p
 
 -- P relates one of the list to p
 pub record HoldsForSome (P : ℕ → ℕ → Type 0) (list : List ℕ) (p : ℕ) : Type 0 where
@@ -41,42 +45,12 @@ pub record HoldsForSome (P : ℕ → ℕ → Type 0) (list : List ℕ) (p : ℕ)
   pub is : P one p
 
 -- p is the position of the active `$f` of one of the symbols
-abbrev pub IsFloatOfSome : List Entry → Database → List ℕ → ℕ → Type 0
-IsFloatOfSome es S codes p = HoldsForSome (IsFloatOf es S) codes p
+abbrev pub IsFloatOfSome : Storage → ℕ → List ℕ → ℕ → Type 0
+IsFloatOfSome k i codes p = HoldsForSome (IsFloatAfter k i) codes p
 
--- the list has the active `$f` of each symbol that was looked up
-abbrev pub HasLookedUpFloats : List Entry → Database → List ℕ → List ℕ → Type 0
-HasLookedUpFloats es S looked_up list = (c p : ℕ) → list_any (λ n. n == c) looked_up ≡ true → IsFloatOf es S c p → In p list
-
--- the hypotheses that are kept with an entry, or none if there is no entry
-abbrev pub option_kept : Option Entry → List ℕ
-option_kept None = []
-option_kept (Some e) = e.assertion.hypotheses
-
--- the hypotheses that are kept with the entry at a position
-abbrev pub kept_at : List Entry → ℕ → List ℕ
-kept_at es p = option_kept (slice_get es (p - 1))
-
--- p is the position q of a `$e`, or that of a hypothesis kept with it
-abbrev pub IsKeptWith : List Entry → ℕ → ℕ → Type 0
-IsKeptWith es q p = In p (q ∷ kept_at es q)
-
--- p is the position of an active `$e`, or of a hypothesis kept with one
-abbrev pub IsFromEssentials : List Entry → Database → ℕ → Type 0
-IsFromEssentials es S p = HoldsForSome (IsKeptWith es) (map (λ q. q.0) (actives is_essential S)) p
-
--- the list has exactly the active `$f` of the symbols
-abbrev pub AreFloats : List Entry → Database → List ℕ → List ℕ → Type 0
-AreFloats es S codes list = ListsExactly (IsFloatOfSome es S codes) list
-
--- the list has exactly the active `$f` of the symbols, the active `$e`, and the hypotheses kept
--- with these
-abbrev pub AreCollected : List Entry → Database → List ℕ → List ℕ → Type 0
-AreCollected es S codes list = ListsExactly (λ p. IsFloatOfSome es S codes p ⊎ IsFromEssentials es S p) list
-
--- the new list has exactly those of the old one, the active `$e` and the hypotheses kept with these
-abbrev pub AreWithEssentials : List Entry → Database → List ℕ → List ℕ → Type 0
-AreWithEssentials es S old new = ListsExactly (λ p. In p old ⊎ IsFromEssentials es S p) new
+-- p is the position q of a `$e`, or that of the active `$f` of one of its symbols
+abbrev pub IsWithEssential : Storage → ℕ → ℕ → ℕ → Type 0
+IsWithEssential k i q p = (p ≡ q) ⊎ IsFloatOfSome k i (symbols_at k.entries q) p
 
 -- the kind is that of a `$f` or a `$e`
 abbrev pub is_hypothesis_entry : Kind → Bool
@@ -95,9 +69,20 @@ pub record AreDescribed (es : List Entry) (ps : List ℕ) (d : Assertion) : Type
   pub numbered_made : d.numbered_hypotheses ≡ map (hypothesis_at es) d.hypotheses
   pub typecodes_made : d.typecodes ≡ map (typecode_at es) d.hypotheses
 
--- the parts of an assertion after the statements S, with these mandatory hypotheses, are whole: they
+-- the parts are those of an assertion after the statements S with these mandatory hypotheses: they
 -- also have the mandatory pairs by the `$d` that are active after S
 pub record IsFilledFrom (es : List Entry) (S : Database) (ps : List ℕ) (d : Assertion) : Type 0 where
-  pub is_whole : d.whole ≡ true
   pub described : AreDescribed es ps d
   pub pairs_made : AreReordered (stored_pairs es S d.numbered_hypotheses) d.groups
+
+-- if the parts of the statement s, which follows the statements S, are whole, they have its
+-- mandatory hypotheses and pairs
+abbrev pub IsKeptAs : List Entry → Database → Stmt → Assertion → Type 0
+IsKeptAs es S s d = d.whole ≡ true → IsFilledFrom es S (hypotheses S s) d
+
+-- the parts are those of an assertion with these mandatory hypotheses, if they are whole; each
+-- hypothesis has its number and its typecode
+pub record ArePartsOf (es : List Entry) (S : Database) (ps : List ℕ) (d : Assertion) : Type 0 where
+  pub paired : length d.numbered_hypotheses ≡ length d.hypotheses
+  pub typecodes_counted : length d.typecodes ≡ length d.hypotheses
+  pub kept : d.whole ≡ true → IsFilledFrom es S ps d

@@ -9,9 +9,9 @@ pub record IsWritten (old new : List ℕ) (at : ℕ) (e : List ℕ) (end : ℕ) 
   pub moved : end ≡ at + length e
   pub inside : end ≤ length new
 
--- after the first `at` of n symbols there is no room for e, for `more` symbols and for 32 others
+-- after the first `at` of n symbols there is no room for e, for `more` symbols and for 16 others
 abbrev pub LacksRoom : ℕ → ℕ → ℕ → List ℕ → Type 0
-LacksRoom n at more e = n < at + length e + more + 32
+LacksRoom n at more e = n < at + length e + more + 16
 
 -- e is appended, or is longer than the limit and nothing changes
 abbrev pub Appends : Bool → ℕ → List ℕ → List ℕ → List ℕ → Type 0

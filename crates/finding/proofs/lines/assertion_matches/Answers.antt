@@ -1,4 +1,5 @@
 use Rattle.finding.proofs.LineWords.{◌+◌, List, ℕ, length, refl, sym, subst, ◌↔◌, IfOk, IsTrue, bares, AreMatchingEssentials, AreRecorded, IsTrimmedLength, HasPattern, AssertionMatches}
+use Rattle.finding.specs.LabelPatterns.{IsLike}
 use Rattle.finding.proofs.LineLemmas.{either_later}
 use Rattle.finding.proofs.HypothesesLemmas.{kept-left, some-left}
 use Rattle.finding.proofs.lines.assertion_matches.Goals as goal
@@ -8,6 +9,12 @@ returns-in-Pattern-clause-matches c =
     let s = c.args.searched.now in
     subst (λ query. IfOk c.has_pattern.result (λ is. IsTrue is ↔ AssertionMatches s.text.now s.statements.now s.descriptions.now query c.args.index c.args.statement.now)) (sym c.in-Pattern.is)
     (subst (λ expr. IfOk c.has_pattern.result (λ is. IsTrue is ↔ HasPattern c.in-Pattern.pattern expr)) c.assertion_expr.ensures c.has_pattern.ensures)
+
+pub returns-in-Labels-clause-matches : goal.returns-in-Labels-clause-matches
+returns-in-Labels-clause-matches c =
+    let s = c.args.searched.now in
+    subst (λ query. IfOk c.matches.result (λ is. IsTrue is ↔ AssertionMatches s.text.now s.statements.now s.descriptions.now query c.args.index c.args.statement.now)) (sym c.in-Labels.is)
+    (subst (λ label. IfOk c.matches.result (λ is. IsTrue is ↔ IsLike c.in-Labels.pattern label)) c.assertion_label.ensures c.matches.ensures)
 
 pub returns-else-expr_matches : goal.returns-else-expr_matches
 returns-else-expr_matches c =

@@ -11,3 +11,6 @@ returns-in-Pattern c = λ S n next stands recorded. subst (λ query. AreRecorded
 
 pub returns-in-Words : goal.returns-in-Words
 returns-in-Words c = λ S n next stands recorded. subst (λ query. AreRecorded query S c.args.at c.args.essentials.now.items) (sym c.in-Words.is) tt
+
+pub returns-in-Labels : goal.returns-in-Labels
+returns-in-Labels c = λ S n next stands recorded. subst (λ query. AreRecorded query S c.args.at c.args.essentials.now.items) (sym c.in-Labels.is) tt

@@ -1,4 +1,4 @@
-use Rattle.finding.proofs.PatternPrelude.{◌≡◌, ◌<◌, ◌∙◌, ap, sym, arith, map, length, below_more, eqb-true, eqb-false, length-map}
+use Rattle.finding.proofs.PatternPrelude.{◌≡◌, sym, arith, length, below_more, eqb-true, eqb-false, length-map}
 use Rattle.finding.proofs.SegmentLemmas.{begins_len, first_here, none_here, end_here, begins_at}
 use Rattle.finding.proofs.matching.first_match.Goals as goal
 

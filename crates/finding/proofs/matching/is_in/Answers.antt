@@ -1,4 +1,4 @@
-use Rattle.std.proofs.Common.{◌∙◌, ap, sym, arith, map, length}
+use Rattle.std.proofs.Common.{arith}
 use Rattle.finding.proofs.SegmentLemmas.{goes_on_none}
 use Rattle.finding.proofs.PatternLemmas.{no_match, last_match, next_segment}
 use Rattle.finding.proofs.matching.is_in.Goals as goal

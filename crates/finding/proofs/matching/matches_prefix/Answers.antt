@@ -1,4 +1,4 @@
-use Rattle.finding.proofs.PatternPrelude.{◌≡◌, ◌<◌, ◌∙◌, ap, sym, arith, map, length, List, length-map, Name}
+use Rattle.finding.proofs.PatternPrelude.{◌∙◌, sym, arith, map, List, length-map, Name}
 use Rattle.finding.proofs.SegmentLemmas.{too_few, begins_on, begins_not, begins_all}
 use Rattle.finding.proofs.matching.matches_prefix.Goals as goal
 

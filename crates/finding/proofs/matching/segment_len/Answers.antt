@@ -1,5 +1,5 @@
-use Rattle.finding.proofs.PatternPrelude.{◌∙◌, ap, sym, arith, drop, segment_len}
-use Rattle.finding.proofs.SegmentLemmas.{segment_on, segment_end, segment_all, segment_within}
+use Rattle.finding.proofs.PatternPrelude.{sym, arith}
+use Rattle.finding.proofs.SegmentLemmas.{segment_on, segment_end, segment_all}
 use Rattle.finding.proofs.matching.segment_len.Goals as goal
 
 pub loop-i-preserved : goal.loop-i-preserved

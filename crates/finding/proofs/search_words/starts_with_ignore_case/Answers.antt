@@ -1,4 +1,4 @@
-use Rattle.finding.proofs.PatternPrelude.{◌∙◌, false, ap, sym, refl, map, str_to_ascii_lowercase, both_ways}
+use Rattle.finding.proofs.PatternPrelude.{◌∙◌, false, ap, sym, refl, str_to_ascii_lowercase, both_ways}
 use Rattle.finding.proofs.HasWordLemmas.{too_short}
 use Rattle.finding.proofs.search_words.starts_with_ignore_case.Goals as goal
 

@@ -1,5 +1,5 @@
-use Rattle.std.proofs.Common.{arith, subst, sym}
-use Rattle.finding.proofs.WordsLemmas.{AreBefore, before_none, before_on, before_all}
+use Rattle.std.proofs.Common.{arith}
+use Rattle.finding.proofs.WordsLemmas.{before_none, before_on, before_all}
 use Rattle.finding.proofs.words.parts_of.Goals as goal
 
 pub loop-found-init : goal.loop-found-init

@@ -1,17 +1,17 @@
-use Rattle.frame.proofs.Words.{◌≡◌, ◌≤◌, length, take, AreBlockEnds, statements_of, Extends, AreGivenBy, replaced_of, last_float}
+use Rattle.frame.proofs.Words.{◌≡◌, ◌≤◌, length, take, AreBlockEnds, statements_of}
 use Rattle.frame.proofs.declare.remove_entries.Given as goal
 
 abbrev pub invariant-loop-storage : goal.invariant-loop-storage
 invariant-loop-storage l = record {
-  front : Extends l.storage.entries l.fn.storage.entries;
   enough : l.len ≤ length l.storage.entries;
-  declared : AreGivenBy l.storage.floats.items (last_float l.storage.entries);
-  recorded : l.storage.replaced.items ≡ replaced_of l.storage.entries;
+  within : length l.storage.entries ≤ length l.fn.storage.entries;
+  front : l.storage.entries ≡ take (length l.storage.entries) l.fn.storage.entries;
   ended : AreBlockEnds l.storage.ends.items (take (length l.storage.entries) (statements_of l.fn.storage));
-  ends_count : length l.storage.ends.items ≡ length l.fn.storage.ends.items;
-  count : length l.storage.floats.items ≡ length l.fn.storage.floats.items;
+  count : length l.storage.ends.items ≡ length l.fn.storage.ends.items;
   names : (l.storage.numbering ≡ l.fn.storage.numbering) × (l.storage.positions ≡ l.fn.storage.positions);
-  tables : (l.storage.disjoints ≡ l.fn.storage.disjoints) × (l.storage.variables ≡ l.fn.storage.variables);
+  floats : l.storage.floats ≡ l.fn.storage.floats;
+  disjoints : l.storage.disjoints ≡ l.fn.storage.disjoints;
+  variables : l.storage.variables ≡ l.fn.storage.variables;
   last_active : l.storage.last_active ≡ l.fn.storage.last_active;
 }
 

@@ -1,13 +1,13 @@
-use Rattle.frame.proofs.Words.{◌≡◌, ◌∙◌, ap, sym, subst, arith, refl, length, ◌+◌, ◌++◌, ◌∷◌, [], true, bare, entry_by, may-declare, AreBelow, has_parts, statements_of, AreGivenBy, IsKeptOf, Storage, AreStored, HasMoreNames, ArePlaced, IsLastActive, IsTableOf, Disj, Var, EntryHeader, IsBelowIfSome, List, ℕ}
+use Rattle.frame.proofs.Words.{◌≡◌, ◌∙◌, ap, sym, subst, arith, refl, length, ◌+◌, ◌++◌, ◌∷◌, [], bare, entry_by, may-declare, statements_of, AreFloatsOf, IsKeptOf, Storage, AreStored, HasMoreNames, ArePlaced, IsLastActive, IsTableOf, Disj, Var, EntryHeader, List, ℕ, Result, Ok, Err, OnErr, append-nil, kept_until, mentions_of}
 use Rattle.frame.proofs.EndLemmas.{block-within, ends-next}
-use Rattle.frame.proofs.EnterLemmas.{IsEntered, IsExtended, added-numbers, entered-below, kept-pushed, numbered-pushed, pushed-statements}
+use Rattle.frame.proofs.EnterLemmas.{IsEntered, IsExtended, added-numbers, entered-two, kept-pushed, numbered-pushed, pushed-statements}
 use Rattle.frame.proofs.NamingLemmas.{stored-naming}
 use Rattle.frame.proofs.ShapeLemmas.{stored-last, stored-placed}
 use Rattle.frame.proofs.extend.extend.Goals as goal
 use Rattle.frame.proofs.extend.extend.Goals.{In-Some}
 
-pub declare_next-requires-clause-free : goal.declare_next-requires-clause-free
-declare_next-requires-clause-free c =
+pub declare_next-requires : goal.declare_next-requires
+declare_next-requires c =
     let k = c.args.storage.now in
     may-declare (statements_of k) c.args.stmt.now k.numbering c.requires.legal (stored-naming k c.requires.stored).kinds_match
 
@@ -24,14 +24,31 @@ entered c = record {
   recorded_after = c.in_ok-declare_next.ensures.recorded;
 }
 
-below : (c : In-Some) → AreBelow (length c.declare_next.new.storage.floats.items) c.in-Some.codes.now
-below c =
-    subst (λ n. AreBelow n c.in-Some.codes.now) (sym c.in_ok-declare_next.ensures.room.count)
-    (entered-below c.args.storage.now c.declare_next.new.storage c.args.stmt.now (header c) c.find_numbers.new.recorded c.declare_next.new.recorded c.in-Some.codes.now (entered c) c.in-Some.ensures.numbers)
+pub mention_float-requires-clause-symbols : goal.mention_float-requires-clause-symbols
+mention_float-requires-clause-symbols c =
+    let w = (goal.at.mention_float-requires-clause-symbols c).In-Some in
+    entered-two c.args.storage.now c.declare_next.new.storage c.args.stmt.now (header w) c.find_numbers.new.recorded c.declare_next.new.recorded c.in-Some.codes.now (entered w) c.in-Some.ensures.numbers
 
-pub record_replaced-requires : goal.record_replaced-requires
-record_replaced-requires c =
-    subst (λ (xs : List ℕ). IsBelowIfSome (length xs) c.typed-typed.result) (sym c.deref.ensures.value) (c.typed-typed.ensures.below _ (below (goal.at.record_replaced-requires c).In-Some))
+pub mention_float-requires-clause-floats : goal.mention_float-requires-clause-floats
+mention_float-requires-clause-floats c = let g = c.in_ok-declare_next.ensures.grown in rw (g.entries, g.floats) c.requires.stored.floats
+
+any-err : {T E : Type 0} (r : Result T E) (P : Type 0) → P → OnErr r P
+any-err (Ok v) P h = tt
+any-err (Err e) P h = h
+
+pub returns-in_err-mention_float-clause-after : goal.returns-in_err-mention_float-clause-after
+returns-in_err-mention_float-clause-after c =
+    let g = c.in_ok-declare_next.ensures.grown in
+    any-err c.from_residual-in_err-mention_float.result _ (record {
+      numbering = g.numbering;
+      positions = g.positions;
+      ends = ([], ap (λ v. v.items) g.ends ∙ sym (append-nil _));
+      entries = g.entries;
+      floats = rw (g.entries, g.floats) at c.mention_float.ensures.kept;
+      disjoints = λ x. ap (λ ms. kept_until (length c.args.storage.now.entries) (mentions_of ms x)) g.disjoints;
+      variables = λ x. ap (λ ms. kept_until (length c.args.storage.now.entries) (mentions_of ms x)) g.variables;
+      last_active = g.last_active;
+    })
 
 next-placed : (old new : Storage) (ends : List ℕ) → AreStored old → HasMoreNames old new → ends ≡ new.ends.items → ArePlaced new.entries ends
 next-placed old new ends stored g is = rw (g.entries, is, ap (λ v. v.items) g.ends) (stored-placed old stored)
@@ -40,7 +57,7 @@ next-last : (old new : Storage) → AreStored old → HasMoreNames old new → I
 next-last old new stored g = rw g.entries (stored-last old stored)
 
 pub mention_next-requires-clause-placed : goal.mention_next-requires-clause-placed
-mention_next-requires-clause-placed c = next-placed c.args.storage.now c.declare_next.new.storage c.deref-2.result.now c.requires.stored c.in_ok-declare_next.ensures.grown c.deref-2.ensures.value
+mention_next-requires-clause-placed c = next-placed c.args.storage.now c.declare_next.new.storage c.deref.result.now c.requires.stored c.in_ok-declare_next.ensures.grown c.deref.ensures.value
 
 pub mention_next-requires-clause-last_active : goal.mention_next-requires-clause-last_active
 mention_next-requires-clause-last_active c = next-last c.args.storage.now c.declare_next.new.storage c.requires.stored c.in_ok-declare_next.ensures.grown
@@ -49,16 +66,13 @@ pub mention_next-requires-clause-table : goal.mention_next-requires-clause-table
 mention_next-requires-clause-table c = let g = c.in_ok-declare_next.ensures.grown in rw (g.entries, g.disjoints) c.requires.stored.disjoints
 
 pub mention_next-requires-2-clause-placed : goal.mention_next-requires-2-clause-placed
-mention_next-requires-2-clause-placed c = next-placed c.args.storage.now c.declare_next.new.storage c.deref-3.result.now c.requires.stored c.in_ok-declare_next.ensures.grown c.deref-3.ensures.value
+mention_next-requires-2-clause-placed c = next-placed c.args.storage.now c.declare_next.new.storage c.deref-2.result.now c.requires.stored c.in_ok-declare_next.ensures.grown c.deref-2.ensures.value
 
 pub mention_next-requires-2-clause-last_active : goal.mention_next-requires-2-clause-last_active
 mention_next-requires-2-clause-last_active c = next-last c.args.storage.now c.declare_next.new.storage c.requires.stored c.in_ok-declare_next.ensures.grown
 
 pub mention_next-requires-2-clause-table : goal.mention_next-requires-2-clause-table
 mention_next-requires-2-clause-table c = let g = c.in_ok-declare_next.ensures.grown in rw (g.entries, g.variables) c.requires.stored.variables
-
-pub declare-requires : goal.declare-requires
-declare-requires c = c.typed-typed.ensures.below _ (below (goal.at.declare-requires c).In-Some)
 
 pub record_end-requires : goal.record_end-requires
 record_end-requires c =
@@ -77,17 +91,12 @@ returns c =
     let told = c.in_ok-declare_next.ensures in
     let e = entered (goal.at.returns c).In-Some in
     let a = c.fill_parts.new.buffers in
-    let kept : has_parts h.kind ≡ true → IsKeptOf k s a = λ own. c.in_ok-size.ensures.parts.kept (ap has_parts (sym e.header.kind) ∙ own) in
-    let extended : IsExtended k new c.args.stmt.now h a codes c.kind-kind.result (c.len.result + 1) c.declare.new.floats.items c.record_replaced.new.replaced.items c.push-2.new.self c.last_active_after-last_active.result = record {
+    let kept : IsKeptOf k s a = c.in_ok-size.ensures.parts.kept in
+    let extended : IsExtended k new c.args.stmt.now h a codes c.push-2.new.self c.last_active_after-last_active.result = record {
       grown = told.grown;
-      room = told.room;
+      few = told.few;
       positions = told.positions;
       kept = kept;
-      of_kind = c.kind-kind.ensures ∙ sym e.header.kind;
-      place = omega (arith, c.len.ensures.len);
-      recorded = λ x reads. rw (← c.typed-typed.ensures.typed) (c.in_ok-record_replaced.ensures.recorded x (subst (λ xs. AreGivenBy xs x) (sym c.deref.ensures.value) reads));
-      each = λ k x g. rw (← c.typed-typed.ensures.typed) (c.declare.ensures.each k x g);
-      count = c.declare.ensures.count;
       pushed = rw (c.parts.ensures.symbols, c.parts.ensures.assertion) at c.in_ok-push-2.ensures.added;
       linked = c.last_active_after-last_active.ensures s (sym c.kind-kind.ensures);
     } in
@@ -101,6 +110,7 @@ returns c =
         numbered = numbered-pushed k new c.args.stmt.now _ c.requires.stored told.numbering statements;
         ended = ends-next k s _ c.kind-kind.result new.last_active.block at c.push.new.self.items c.record_end.new.ends.items c.requires.stored c.kind-kind.ensures (ap (λ l. l.block) told.grown.last_active)
             place (c.in_ok-push.ensures.items ∙ ap (λ v. v.items ++ 0 ∷ []) told.grown.ends) c.record_end.ensures statements;
+        floats = subst (λ es. AreFloatsOf es c.mention_float.new.floats) (sym extended.pushed) (c.in_ok-mention_float.ensures.floats a);
         disjoints = subst (λ es. IsTableOf Disj es c.mention_next.new.mentions) (sym extended.pushed) (c.in_ok-mention_next.ensures.table a);
         variables = subst (λ es. IsTableOf Var es c.mention_next-2.new.mentions) (sym extended.pushed) (c.in_ok-mention_next-2.ensures.table a);
       };

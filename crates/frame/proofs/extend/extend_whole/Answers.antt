@@ -1,4 +1,4 @@
-use Rattle.frame.proofs.Words.{◌∙◌, ap, sym, take, arith, HasMoreAtEnd, on-err}
+use Rattle.frame.proofs.Words.{◌∙◌, ap, sym, take, HasMoreAtEnd, on-err}
 use Rattle.frame.proofs.CutStorage.{back-stored}
 use Rattle.frame.proofs.extend.extend_whole.Goals as goal
 
@@ -11,11 +11,10 @@ returns-then-is_err-clause-stored c =
     back-stored old mid c.roll_back.new.storage c.requires.stored (record {
       after = after;
       numbering_cut = cut.names ∙ ap (λ n. take n mid.numbering) c.len-names.ensures;
-      floats_cut = cut.floats;
       positions_cut = cut.positions;
-      replaced_cut = cut.replaced ∙ ap (λ n. take n mid.replaced.items) (omega (arith, c.len-replaced.ensures, old.replaced.ok.0));
       ends_cut = cut.ends;
       entries_cut = cut.entries;
+      floats_cut = cut.floats;
       disjoints_cut = cut.disjoints;
       variables_cut = cut.variables;
       last_active_cut = cut.last_active;

@@ -33,3 +33,6 @@ returns-in-Close-clause-table c =
 
 pub returns-in_default-clause-table : goal.returns-in_default-clause-table
 returns-in_default-clause-table c = λ a. table-other c.args.table c.args.entries.now (entry_by c.args.header.now c.args.codes.now a) c.args.mentions.now c.requires.table (sym c.is_entry_of.ensures ∙ c.if-is_entry_of.false)
+
+pub returns-in_default-2-clause-table : goal.returns-in_default-2-clause-table
+returns-in_default-2-clause-table c = λ a. table-other c.args.table c.args.entries.now (entry_by c.args.header.now c.args.codes.now a) c.args.mentions.now c.requires.table (sym c.is_entry_of.ensures ∙ c.if-is_entry_of.false)

@@ -1,9 +1,10 @@
-use Rattle.verify.proofs.Words.{[], refl, list_all, Name, has_name, CodeImages, ◌≡◌, ℕ, zero, suc, ◌≤◌, List, length, arith, sym, ◌∙◌, ap, subst, slice_get_within, Some, IfOk-weaker, on_ok_weaker, Stmt, Database, before, stmt_at, decode, is_numbered_pair, pair_lists, images_of_names, mandatory_groups, are_groups_disjoint, AllBelow, AreBelow, AreDistinct, AreOver}
+use Rattle.verify.proofs.Words.{[], refl, list_all, Name, has_name, CodeImages, ◌≡◌, ℕ, zero, suc, ◌≤◌, List, length, arith, sym, ◌∙◌, ap, subst, slice_get_within, Some, IfOk-weaker, on_ok_weaker, Stmt, Database, before, stmt_at, decode, float_variables, is_numbered_pair, pair_lists, images_of_names, mandatory_groups, are_groups_disjoint, AllBelow, AreBelow, AreDistinct, AreOver}
 use Rattle.frame.specs.Disjoint.{is_list_disjoint}
 use Rattle.frame.specs.FrameOf.{is_mandatory}
 use Rattle.frame.proofs.PairDisjointLemmas.{kept-decide, made-decide}
 use Rattle.subst.proofs.PastLemmas.{err_weaker}
 use Rattle.verify.proofs.PairCountLemmas.{kept-pairs, kept-past, made-pairs, made-past}
+use Rattle.verify.specs.Metered.{with_work}
 use Rattle.verify.proofs.citation.are_images_disjoint.Goals as goal
 
 stands-within : (S : Database) (a : ℕ) (s : Stmt) → stmt_at S a ≡ Some s → (1 ≤ a) × (a ≤ length S)
@@ -56,7 +57,7 @@ are_made_disjoint-requires-clause-names c = c.active_pairs-cited_pairs.ensures.n
 pub are_made_disjoint-requires-clause-below : goal.are_made_disjoint-requires-clause-below
 are_made_disjoint-requires-clause-below c =
     let is = c.requires.cited c.requires.may.assertion.0 c.requires.may.assertion.1.0 in
-    subst (λ names. AreBelow (length names) c.begin.new.self.variables) (sym c.requires.may.ready.names) (subst (AreBelow (length c.args.context.now.frames.now.names)) (sym c.in_ok-begin.ensures) is.variables.below)
+    subst (λ names. AreBelow (length names) c.begin.new.self.variables) (sym c.requires.may.ready.names) (subst (AreBelow (length c.args.context.now.frames.now.names)) (sym (c.in_ok-begin.ensures ∙ ap float_variables c.copy.ensures)) is.variables.below)
 
 pub returns-clause-disjoint : goal.returns-clause-disjoint
 returns-clause-disjoint c =
@@ -74,7 +75,7 @@ returns-clause-disjoint c =
     let is = c.requires.cited s h in
     e ∙ (same-test ρ t.pairs.statements (before S t.at) t.pairs.names names (pair_lists (is_numbered_pair v) [] vs) c.requires.may.ready.active c.requires.may.ready.names
     ∙ (made-decide (before S t.at) τ names v s vs c.active_pairs-cited_pairs.ensures.names
-    (λ x. ap (λ l. has_name x (decode names l)) c.in_ok-begin.ensures ∙ (is.variables.mandatory x ∙ ap (λ A. is_mandatory A s x) (sym c.active_pairs-cited_pairs.ensures.statements)))
+    (λ x. ap (λ l. has_name x (decode names l)) (c.in_ok-begin.ensures ∙ ap float_variables c.copy.ensures) ∙ (is.variables.mandatory x ∙ ap (λ A. is_mandatory A s x) (sym c.active_pairs-cited_pairs.ensures.statements)))
     ∙ ap (λ A. are_groups_disjoint (before S t.at) τ (mandatory_groups A s)) c.active_pairs-cited_pairs.ensures.statements)))
     c.are_made_disjoint.ensures.disjoint
 
@@ -88,18 +89,18 @@ pub returns-clause-counted : goal.returns-clause-counted
 returns-clause-counted c =
     on_ok_weaker c.are_made_disjoint.result
     (made-pairs c.args.context.now c.args.position c.args.results.now.images c.requires.may.ready c.requires.over c.args.cited.now c.requires.cited c.requires.may.assertion c.args.meter.now c.are_made_disjoint.new.meter
-    c.active_pairs-cited_pairs.result c.begin.new.self.variables c.active_pairs-cited_pairs.ensures.statements c.active_pairs-cited_pairs.ensures.names c.in_ok-begin.ensures)
+    c.active_pairs-cited_pairs.result c.begin.new.self.variables c.active_pairs-cited_pairs.ensures.statements c.active_pairs-cited_pairs.ensures.names (c.in_ok-begin.ensures ∙ ap float_variables c.copy.ensures))
     c.are_made_disjoint.ensures.counted
 
 pub returns-then-cited-clause-costly : goal.returns-then-cited-clause-costly
 returns-then-cited-clause-costly c =
     err_weaker c.are_disjoint.result _ _
-    (λ stop costly is. kept-past c.args.context.now c.args.position c.args.results.now.images c.requires.may.ready c.requires.over c.args.cited.now c.requires.cited c.requires.may.assertion c.args.meter.now c.args.meter.now c.if-cited.true (costly is))
+    (λ stop costly is. kept-past c.args.context.now c.args.position c.args.results.now.images c.requires.may.ready c.requires.over c.args.cited.now c.requires.cited c.requires.may.assertion (with_work c.args.meter.now c.args.results.now.results.weight) c.args.meter.now c.if-cited.true (costly is))
     c.are_disjoint.ensures.costly
 
 pub returns-clause-costly : goal.returns-clause-costly
 returns-clause-costly c =
     err_weaker c.are_made_disjoint.result _ _
-    (λ stop costly is. made-past c.args.context.now c.args.position c.args.results.now.images c.requires.may.ready c.requires.over c.args.cited.now c.requires.cited c.requires.may.assertion c.args.meter.now c.args.meter.now
-    c.active_pairs-cited_pairs.result c.begin.new.self.variables c.active_pairs-cited_pairs.ensures.statements c.active_pairs-cited_pairs.ensures.names c.in_ok-begin.ensures (costly is))
+    (λ stop costly is. made-past c.args.context.now c.args.position c.args.results.now.images c.requires.may.ready c.requires.over c.args.cited.now c.requires.cited c.requires.may.assertion (with_work c.args.meter.now c.args.results.now.results.weight) c.args.meter.now
+    c.active_pairs-cited_pairs.result c.begin.new.self.variables c.active_pairs-cited_pairs.ensures.statements c.active_pairs-cited_pairs.ensures.names (c.in_ok-begin.ensures ∙ ap float_variables c.copy.ensures) (costly is))
     c.are_made_disjoint.ensures.costly

@@ -2,8 +2,11 @@ use Rattle.verify.proofs.Words.{MayCite, ◌≡◌, ℕ, ◌<◌, ◌↔◌, Boo
 use Rattle.verify.proofs.RequiredHypotheses.{required-lengths, required-different, required-standing}
 use Rattle.verify.proofs.CitationLemmas.{over-read, has-cited, not-cited}
 use Rattle.verify.proofs.ResultPlaceLemmas.{kept-as}
-use Rattle.verify.proofs.CountLemmas.{fit-apart, fit-done, fit-not, fit-past}
-use Rattle.verify.proofs.ItemCountLemmas.{passed_on}
+use Rattle.subst.proofs.PastLemmas.{err_weaker}
+use Rattle.verify.proofs.CountLemmas.{fit-apart, fit-done, fit-heavy, fit-not, fit-past}
+use Rattle.verify.proofs.ItemCountLemmas.{ok-both, passed_on}
+use Rattle.verify.specs.Counted.{IsPastPairs}
+use Rattle.verify.specs.Metered.{with_work}
 use Rattle.verify.proofs.citation.cite_by_view.Goals as goal
 
 -- a fact about one flag holds of a flag that is equal to it
@@ -57,12 +60,16 @@ returns-then-not-branch-clause-effect c =
 
 pub returns-clause-effect : goal.returns-clause-effect
 returns-clause-effect c =
-    has-cited _ _ _ c.requires.may c.args.cited.now c.requires.cited c.in_ok-apply.field-0 _ c.read_images.new.self.images (let h = c.if-count-len.false in omega (arith, h, c.len.ensures)) (reads-as _ true _ _ _ _ (ap is_some c.in-Some.is) c.in_ok-has_essentials.ensures.read) ((fit-as _ _ _ _ _ _ _ (ap (λ (v : Results ℕ). v.stack) c.in_ok-has_essentials.ensures.same) c.hypotheses_match.ensures).0 c.if-not-hypotheses_match.false)
+    IfOk-weaker c.apply.result _ _
+    (λ ok adds. has-cited _ _ _ c.requires.may c.args.cited.now c.requires.cited ok _ c.read_images.new.self.images (let h = c.if-count-len.false in omega (arith, h, c.len.ensures)) (reads-as _ true _ _ _ _ (ap is_some c.in-Some.is) c.in_ok-has_essentials.ensures.read) ((fit-as _ _ _ _ _ _ _ (ap (λ (v : Results ℕ). v.stack) c.in_ok-has_essentials.ensures.same) c.hypotheses_match.ensures).0 c.if-not-hypotheses_match.false)
     (λ s h. sym c.if-not-branch.false ∙ c.in_ok-are_images_disjoint.ensures.disjoint s h)
-    (adds-as c.in_ok-apply.field-0 c.read_images.new.self.results _ _ _ _ _ c.in_ok-has_essentials.ensures.same c.len-count.ensures (rw c.in_ok-are_images_disjoint.ensures.same at c.in_ok-apply.ensures.adds))
+    (adds-as ok c.read_images.new.self.results _ _ _ _ _ c.in_ok-has_essentials.ensures.same c.len-count.ensures adds))
+    (rw c.in_ok-are_images_disjoint.ensures.same at c.apply.ensures.adds)
 
 pub returns-clause-kept : goal.returns-clause-kept
-returns-clause-kept c = kept-as c.in_ok-apply.field-0 _ _ _ c.in_ok-has_essentials.ensures.same c.in_ok-has_essentials.ensures.symbols (rw c.in_ok-are_images_disjoint.ensures.same at c.in_ok-apply.ensures.kept)
+returns-clause-kept c =
+    IfOk-weaker c.apply.result _ _ (λ ok kept. kept-as ok _ _ _ c.in_ok-has_essentials.ensures.same c.in_ok-has_essentials.ensures.symbols kept)
+    (rw c.in_ok-are_images_disjoint.ensures.same at c.apply.ensures.kept)
 
 -- ---- what is counted
 
@@ -95,13 +102,25 @@ returns-in_err-are_images_disjoint-clause-costly c =
     (λ is. fit-past c.args.context.now c.args.position c.args.results.now c.requires.may c.args.cited.now c.requires.cited c.read_images.new.self.images c.args.meter.now c.args.meter.now
     (let h = c.if-count-len.false in omega (arith, h, c.len.ensures)) (reads-as _ true _ _ _ _ (ap is_some c.in-Some.is) c.in_ok-has_essentials.ensures.read)
     ((fit-as _ _ _ _ _ _ _ (ap (λ (v : Results ℕ). v.stack) c.in_ok-has_essentials.ensures.same) c.hypotheses_match.ensures).0 c.if-not-hypotheses_match.false)
-    (c.in_err-are_images_disjoint.ensures.costly is))
+    (subst (λ (r : Results ℕ). IsPastPairs c.args.context.now c.args.position c.read_images.new.self.images (with_work c.args.meter.now r.weight)) c.in_ok-has_essentials.ensures.same (c.in_err-are_images_disjoint.ensures.costly is)))
 
 pub returns-clause-counted : goal.returns-clause-counted
 returns-clause-counted c =
-    fit-done c.args.context.now c.args.position c.args.results.now c.requires.may c.args.cited.now c.requires.cited c.read_images.new.self.images c.args.meter.now c.are_images_disjoint.new.meter
+    IfOk-weaker c.apply.result _ _
+    (λ ok known. fit-done c.args.context.now c.args.position c.args.results.now c.requires.may c.args.cited.now c.requires.cited c.read_images.new.self.images c.args.meter.now c.are_images_disjoint.new.meter
     (let h = c.if-count-len.false in omega (arith, h, c.len.ensures)) (reads-as _ true _ _ _ _ (ap is_some c.in-Some.is) c.in_ok-has_essentials.ensures.read)
     ((fit-as _ _ _ _ _ _ _ (ap (λ (v : Results ℕ). v.stack) c.in_ok-has_essentials.ensures.same) c.hypotheses_match.ensures).0 c.if-not-hypotheses_match.false)
-    c.in_ok-are_images_disjoint.ensures.counted c.in_ok-apply.field-0 c.apply.new.self (λ s h. sym c.if-not-branch.false ∙ c.in_ok-are_images_disjoint.ensures.disjoint s h)
-    c.in_ok-apply.ensures.light (λ e. (subst (λ b. IsKept b c.args.results.now c.apply.new.self) e (returns-clause-kept c)).0)
-    (adds-as c.in_ok-apply.field-0 c.read_images.new.self.results _ _ _ _ _ c.in_ok-has_essentials.ensures.same c.len-count.ensures (rw c.in_ok-are_images_disjoint.ensures.same at c.in_ok-apply.ensures.adds))
+    c.in_ok-are_images_disjoint.ensures.counted ok c.apply.new.self (λ s h. sym c.if-not-branch.false ∙ c.in_ok-are_images_disjoint.ensures.disjoint s h)
+    known.0.1 (λ e. (subst (λ b. IsKept b c.args.results.now c.apply.new.self) e known.1).0)
+    (adds-as ok c.read_images.new.self.results _ _ _ _ _ c.in_ok-has_essentials.ensures.same c.len-count.ensures known.0.0))
+    (ok-both c.apply.result _ _ (ok-both c.apply.result _ _ (rw c.in_ok-are_images_disjoint.ensures.same at c.apply.ensures.adds) c.apply.ensures.light) (returns-clause-kept c))
+
+pub returns-clause-costly : goal.returns-clause-costly
+returns-clause-costly c =
+    err_weaker c.apply.result _ _
+    (λ stop costly is. fit-heavy c.args.context.now c.args.position c.args.results.now c.requires.may c.args.cited.now c.requires.cited c.read_images.new.self.images c.args.meter.now c.are_images_disjoint.new.meter
+    (let h = c.if-count-len.false in omega (arith, h, c.len.ensures)) (reads-as _ true _ _ _ _ (ap is_some c.in-Some.is) c.in_ok-has_essentials.ensures.read)
+    ((fit-as _ _ _ _ _ _ _ (ap (λ (v : Results ℕ). v.stack) c.in_ok-has_essentials.ensures.same) c.hypotheses_match.ensures).0 c.if-not-hypotheses_match.false)
+    c.in_ok-are_images_disjoint.ensures.counted (λ s h. sym c.if-not-branch.false ∙ c.in_ok-are_images_disjoint.ensures.disjoint s h)
+    c.read_images.new.self c.in_ok-has_essentials.ensures.same (costly is))
+    (rw c.in_ok-are_images_disjoint.ensures.same at c.apply.ensures.costly)

@@ -39,6 +39,22 @@ returns-then-is_only-clause-heard g c = λ p.
     (ap (take done) c.parts-parts.ensures ∙ take_all done items (let all = c.if-done-parts.false in omega (arith, all, count)))
     (c.in_ok-done.ensures.heard labels (subst (AreEntries S at labels) (sym c.deref.ensures.value) c.in_ok-fill_table.ensures.entries) p)
 
+pub returns-then-done-parts-clause-heard : goal.returns-then-done-parts-clause-heard
+returns-then-done-parts-clause-heard g c = λ p.
+    let S = c.args.frames.now.statements in let at = c.args.at in let labels = c.parts-parts.result.labels.now in let done = c.in_ok-done.done in
+    subst (λ is. g.L.Listener.follows (walk c.args.frames.now at is c.run_items.new.buffers.results) c.run_items.new.listener)
+    (ap (take done) c.parts-parts.ensures)
+    (c.in_ok-done.ensures.heard labels (subst (AreEntries S at labels) (sym c.deref.ensures.value) c.in_ok-fill_table.ensures.entries) p)
+
+pub returns-clause-heard : goal.returns-clause-heard
+returns-clause-heard g c = λ p.
+    let S = c.args.frames.now.statements in let at = c.args.at in let items = c.args.items.now in
+    let labels = c.parts-parts.result.labels.now in let numbers = c.parts-parts.result.numbers.now in
+    let done = c.in_ok-done.done in let count = count-items labels numbers items c.parts-parts.ensures in
+    subst (λ is. g.L.Listener.follows (walk c.args.frames.now at is c.run_items.new.buffers.results) c.run_items.new.listener)
+    (ap (take done) c.parts-parts.ensures ∙ take_all done items (let all = c.if-done-parts.false in omega (arith, all, count)))
+    (c.in_ok-done.ensures.heard labels (subst (AreEntries S at labels) (sym c.deref.ensures.value) c.in_ok-fill_table.ensures.entries) p)
+
 pub returns-clause-outcome : goal.returns-clause-outcome
 returns-clause-outcome g c =
     let S = c.args.frames.now.statements in let names = c.args.frames.now.names in let at = c.args.at in let items = c.args.items.now in

@@ -1,9 +1,10 @@
-use Rattle.verify.proofs.Words.{◌≡◌, ◌∙◌, ◌+◌, ◌-◌, ℕ, start, drop, take_all, Bool, true, false, Result, Ok, IfOk, get_or, map, take, before, named, ap, refl, arith, sym, subst, IfOk-at_ok, take-map, item_of, AreNamed, RunsItemByNumber, IsKept, IsHeard, walk}
+use Rattle.verify.proofs.Words.{◌≡◌, ◌∙◌, ◌+◌, ℕ, start, drop, take_all, Bool, true, false, Result, Ok, IfOk, Results, RunsItemIn, length, get_or, map, take, before, named, ap, arith, sym, subst, IfOk-at_ok, take-map, item_of, AreNamed, RunsItemByNumber, IsKept, IsHeard, walk}
 use Rattle.verify.proofs.StepLemmas.{Reached, reached-start, reached-step, items-more}
 use Rattle.verify.proofs.StopLemmas.{stops-at, stops-end}
 use Rattle.verify.proofs.WalkLemmas.{heard-not, walk-begins, all-items}
 use Rattle.verify.proofs.ItemCountLemmas.{passed_on}
-use Rattle.verify.proofs.RunCountLemmas.{CountedRun, all-parts, run-end, run-more, run-none, run-past, run-short, run-stop, split-items}
+use Rattle.verify.proofs.CountLemmas.{with-none}
+use Rattle.verify.proofs.RunCountLemmas.{CountedRun, one-item, past-beside, past-with, run-end, run-more, run-none, run-past, run-short, run-stop, split-items, weight-grows}
 use Rattle.verify.specs.Counted.{HasCountedItem}
 use Rattle.verify.specs.Metered.{is_past, with_work}
 use Rattle.verify.specs.Work.{items_work}
@@ -15,7 +16,10 @@ loop-done-init g c = (
   subst (AreNamed c.args.context.now.frames.now.names) (sym c.start.ensures.results) (record { stack_named = tt; saved_named = tt }),
   λ labels are. reached-start c.args.context.now.frames.now.statements c.args.context.now.frames.now.names c.args.context.now.at c.requires.ready.legal c.start.new.self.results c.start.ensures.results,
   λ labels are p. subst (λ w. g.L.Listener.follows w c.args.listener.now) (sym (walk-begins c.args.context.now.frames.now c.args.context.now.at c.start.new.self c.start.ensures.results c.start.ensures.symbols)) p,
-  λ labels are. run-none (before c.args.context.now.frames.now.statements c.args.context.now.at) (named c.args.context.now.frames.now.names c.start.new.self.results) c.args.meter.now c.args.meter.now (ap (named c.args.context.now.frames.now.names) c.start.ensures.results) refl,
+  λ labels are.
+      let weight : c.start.new.self.results.weight ≡ 0 = ap (λ (r : Results ℕ). r.weight) c.start.ensures.results in
+      run-none (before c.args.context.now.frames.now.statements c.args.context.now.at) (named c.args.context.now.frames.now.names c.start.new.self.results) c.args.meter.now _ (ap (named c.args.context.now.frames.now.names) c.start.ensures.results)
+      (ap (λ (n : ℕ). with_work c.args.meter.now (0 + n)) weight ∙ sym (with-none c.args.meter.now)),
 )
 
 -- a property of the answer of a step holds of the flag that it returned
@@ -39,14 +43,13 @@ loop-done-preserved g c =
           (map (item_of labels) (take i numbers)) (c.loop-done.invariant.3 labels are p)),
       λ labels are.
           let t = c.args.context.now in let D = before t.frames.now.statements t.at in let names = t.frames.now.names in
-          let numbers = c.args.numbers.now in let i = c.loop-done.done in let item = item_of labels (get_or numbers i 0) in
-          let old = c.loop-done.buffers.results in let new = c.step.new.buffers.results in let m = c.loop-done.meter in let all = c.add-in-loop-done.new.self in
-          let grown = new.results.weight - old.results.weight in
-          let it : HasCountedItem t item old new m c.step.new.meter true = went c.step.result c.in_ok-was_done.was_done true (λ v. HasCountedItem t item old new m c.step.new.meter v) (c.step.ensures.counted labels are) c.in_ok-was_done.was c.if-not-was_done.false in
-          let parts = all-parts t item old new m c.step.new.meter c.add.new.self all grown true it c.in_ok-add.ensures.counted
-          (c.in_ok-add-2.ensures.counted ∙ (ap (λ (n : ℕ). with_work c.add.new.self (n - c.weight-weight.result)) c.weight.ensures ∙ ap (λ (n : ℕ). with_work c.add.new.self (new.results.weight - n)) c.weight-weight.ensures)) in
-          subst (λ is. CountedRun D is (named names new.results) c.args.meter.now all) (sym (items-more labels numbers i c.loop-done-test.true))
-          (run-more D (map (item_of labels) (take i numbers)) item (named names old.results) (named names new.results) c.args.meter.now m all (1 + it.extra + grown) (c.loop-done.invariant.4 labels are) parts it.gives),
+          let item = item_of labels (get_or numbers i 0) in
+          let it : HasCountedItem t item old new c.loop-done.meter c.step.new.meter true = went c.step.result c.in_ok-was_done.was_done true (λ v. HasCountedItem t item old new c.loop-done.meter c.step.new.meter v) (c.step.ensures.counted labels are) c.in_ok-was_done.was c.if-not-was_done.false in
+          let grows = weight-grows S at names c.loop-done.invariant.0 item old new c.in_ok-was_done.was_done
+          (IfOk-at_ok (RunsItemIn t item old new) c.in_ok-was_done.was (c.step.ensures.effect labels are)) (IfOk-at_ok (λ ok. IsKept ok old new) c.in_ok-was_done.was c.step.ensures.kept) in
+          subst (λ is. CountedRun D is (named names new.results) c.args.meter.now (with_work c.step.new.meter (i + 1 + new.results.weight))) (sym (items-more labels numbers i c.loop-done-test.true))
+          (run-more D (map (item_of labels) (take i numbers)) item (named names old.results) (named names new.results) c.args.meter.now _ _ _ (c.loop-done.invariant.4 labels are)
+          (one-item t item old new c.loop-done.meter c.step.new.meter true i it grows) it.gives),
     )
 
 pub returns-then-not-was_done-clause-stops : goal.returns-then-not-was_done-clause-stops
@@ -79,43 +82,49 @@ returns-clause-heard g c = λ labels are p.
     (all-items labels numbers c.loop-done.done _ (omega (arith, c.loop-done-test.false)) (omega arith))
     (c.loop-done.invariant.3 labels are p)
 
-pub returns-then-is_past-clause-costly : goal.returns-then-is_past-clause-costly
-returns-then-is_past-clause-costly g c = λ labels are e.
+pub returns-then-is_past_with-clause-costly : goal.returns-then-is_past_with-clause-costly
+returns-then-is_past_with-clause-costly g c = λ labels are e.
     let t = c.args.context.now in let D = before t.frames.now.statements t.at in let names = t.frames.now.names in
     let numbers = c.args.numbers.now in let i = c.loop-done.done in let item = item_of labels (get_or numbers i 0) in
-    let old = c.loop-done.buffers.results in let new = c.step.new.buffers.results in let m = c.loop-done.meter in let all = c.add-in-loop-done.new.self in
-    let grown = new.results.weight - old.results.weight in
-    let it : HasCountedItem t item old new m c.step.new.meter c.in_ok-was_done.was_done = went c.step.result c.in_ok-was_done.was_done c.in_ok-was_done.was_done (λ v. HasCountedItem t item old new m c.step.new.meter v) (c.step.ensures.counted labels are) c.in_ok-was_done.was refl in
-    let parts = all-parts t item old new m c.step.new.meter c.add.new.self all grown c.in_ok-was_done.was_done it c.in_ok-add.ensures.counted
-    (c.in_ok-add-2.ensures.counted ∙ (ap (λ (n : ℕ). with_work c.add.new.self (n - c.weight-weight.result)) c.weight.ensures ∙ ap (λ (n : ℕ). with_work c.add.new.self (new.results.weight - n)) c.weight-weight.ensures)) in
+    let old = c.loop-done.buffers.results in let new = c.step.new.buffers.results in let ok = c.in_ok-was_done.was_done in
+    let it : HasCountedItem t item old new c.loop-done.meter c.step.new.meter ok = IfOk-at_ok (HasCountedItem t item old new c.loop-done.meter c.step.new.meter) c.in_ok-was_done.was (c.step.ensures.counted labels are) in
+    let grows = weight-grows t.frames.now.statements t.at names c.loop-done.invariant.0 item old new ok
+    (IfOk-at_ok (RunsItemIn t item old new) c.in_ok-was_done.was (c.step.ensures.effect labels are)) (IfOk-at_ok (λ b. IsKept b old new) c.in_ok-was_done.was c.step.ensures.kept) in
     subst (λ is. is_past (with_work c.args.meter.now (items_work D is start)) ≡ true) (sym (split-items labels numbers i c.loop-done-test.true))
-    (run-past D (map (item_of labels) (take i numbers)) item (named names old.results) (named names new.results) c.args.meter.now m all (1 + it.extra + grown) (c.loop-done.invariant.4 labels are) parts c.in_ok-was_done.was_done (map (item_of labels) (drop (i + 1) numbers)) it.gives (sym c.is_past.ensures ∙ c.if-is_past.true))
+    (run-past D (map (item_of labels) (take i numbers)) item (named names old.results) (named names new.results) c.args.meter.now _ _ _ (c.loop-done.invariant.4 labels are)
+    (one-item t item old new c.loop-done.meter c.step.new.meter ok i it grows) ok (map (item_of labels) (drop (i + 1) numbers)) it.gives
+    (past-with c.step.new.meter new.results.weight (i + 1 + new.results.weight) (omega arith)
+    (subst (λ n. is_past (with_work c.step.new.meter n) ≡ true) c.weight.ensures (sym c.is_past_with.ensures ∙ c.if-is_past_with.true))))
 
 pub returns-then-not-was_done-clause-counted : goal.returns-then-not-was_done-clause-counted
 returns-then-not-was_done-clause-counted g c = λ labels are.
     let t = c.args.context.now in let D = before t.frames.now.statements t.at in let names = t.frames.now.names in
     let numbers = c.args.numbers.now in let i = c.loop-done.done in let item = item_of labels (get_or numbers i 0) in
-    let old = c.loop-done.buffers.results in let new = c.step.new.buffers.results in let m = c.loop-done.meter in let all = c.add-in-loop-done.new.self in
-    let grown = new.results.weight - old.results.weight in
-    let it : HasCountedItem t item old new m c.step.new.meter false = went c.step.result c.in_ok-was_done.was_done false (λ v. HasCountedItem t item old new m c.step.new.meter v) (c.step.ensures.counted labels are) c.in_ok-was_done.was c.if-not-was_done.true in
-    let parts = all-parts t item old new m c.step.new.meter c.add.new.self all grown false it c.in_ok-add.ensures.counted
-    (c.in_ok-add-2.ensures.counted ∙ (ap (λ (n : ℕ). with_work c.add.new.self (n - c.weight-weight.result)) c.weight.ensures ∙ ap (λ (n : ℕ). with_work c.add.new.self (new.results.weight - n)) c.weight-weight.ensures)) in
-    run-stop D (map (item_of labels) (take i numbers)) item (named names old.results) (named names new.results) c.args.meter.now m all (1 + it.extra + grown) (c.loop-done.invariant.4 labels are) parts (map (item_of labels) (drop (i + 1) numbers)) it.gives
-    ∙ ap (λ is. with_work c.args.meter.now (items_work D is start)) (sym (split-items labels numbers i c.loop-done-test.true))
+    let old = c.loop-done.buffers.results in let new = c.step.new.buffers.results in
+    let it : HasCountedItem t item old new c.loop-done.meter c.step.new.meter false = went c.step.result c.in_ok-was_done.was_done false (λ v. HasCountedItem t item old new c.loop-done.meter c.step.new.meter v) (c.step.ensures.counted labels are) c.in_ok-was_done.was c.if-not-was_done.true in
+    let grows = weight-grows t.frames.now.statements t.at names c.loop-done.invariant.0 item old new c.in_ok-was_done.was_done
+    (IfOk-at_ok (RunsItemIn t item old new) c.in_ok-was_done.was (c.step.ensures.effect labels are)) (IfOk-at_ok (λ b. IsKept b old new) c.in_ok-was_done.was c.step.ensures.kept) in
+    c.in_ok-count_items.ensures
+    ∙ (run-stop D (map (item_of labels) (take i numbers)) item (named names old.results) (named names new.results) c.args.meter.now _ _ _ (c.loop-done.invariant.4 labels are)
+    (one-item t item old new c.loop-done.meter c.step.new.meter false i it grows) (map (item_of labels) (drop (i + 1) numbers)) it.gives
+    ∙ ap (λ is. with_work c.args.meter.now (items_work D is start)) (sym (split-items labels numbers i c.loop-done-test.true)))
 
 pub returns-clause-counted : goal.returns-clause-counted
 returns-clause-counted g c = λ labels are.
-    let t = c.args.context.now in let D = before t.frames.now.statements t.at in
-    run-end D (map (item_of labels) (take c.loop-done.done c.args.numbers.now)) (named t.frames.now.names c.loop-done.buffers.results.results) c.args.meter.now c.loop-done.meter (c.loop-done.invariant.4 labels are)
-    ∙ ap (λ ns. with_work c.args.meter.now (items_work D (map (item_of labels) ns) start)) (take_all c.loop-done.done c.args.numbers.now (omega (arith, c.loop-done-test.false)))
+    let t = c.args.context.now in let D = before t.frames.now.statements t.at in let names = t.frames.now.names in
+    let all : length c.args.numbers.now ≡ c.loop-done.done = omega (arith, c.loop-done-test.false) in
+    c.in_ok-count_items-2.ensures
+    ∙ (ap (λ n. with_work c.loop-done.meter (n + c.loop-done.buffers.results.results.weight)) all
+    ∙ (run-end D (map (item_of labels) (take c.loop-done.done c.args.numbers.now)) (named names c.loop-done.buffers.results.results) c.args.meter.now _ (c.loop-done.invariant.4 labels are)
+    ∙ ap (λ ns. with_work c.args.meter.now (items_work D (map (item_of labels) ns) start)) (take_all c.loop-done.done c.args.numbers.now (omega (arith, c.loop-done-test.false)))))
 
 pub returns-in_err-was_done-clause-costly : goal.returns-in_err-was_done-clause-costly
 returns-in_err-was_done-clause-costly g c = λ labels are.
     let t = c.args.context.now in let D = before t.frames.now.statements t.at in let names = t.frames.now.names in
-    let numbers = c.args.numbers.now in let i = c.loop-done.done in let item = item_of labels (get_or numbers i 0) in
+    let numbers = c.args.numbers.now in let i = c.loop-done.done in let old = c.loop-done.buffers.results.results in
     passed_on c.from_residual.result c.in_err-was_done.field-0.0 _ c.from_residual.ensures.1
     (λ e.
     let past = c.in_err-was_done.ensures.costly labels are e in
     subst (λ is. is_past (with_work c.args.meter.now (items_work D is start)) ≡ true) (sym (split-items labels numbers i c.loop-done-test.true))
-    (run-short D (map (item_of labels) (take i numbers)) item (map (item_of labels) (drop (i + 1) numbers)) (named names c.loop-done.buffers.results.results) c.args.meter.now c.loop-done.meter past.extra (c.loop-done.invariant.4 labels are)
-    past.within past.past))
+    (run-short D (map (item_of labels) (take i numbers)) (item_of labels (get_or numbers i 0)) (map (item_of labels) (drop (i + 1) numbers)) (named names old) c.args.meter.now (with_work c.loop-done.meter (i + old.weight)) past.extra
+    (c.loop-done.invariant.4 labels are) past.within (past-beside c.loop-done.meter i old.weight past.extra past.past)))

@@ -1,8 +1,7 @@
 use Rattle.frame.proofs.Words.{◌≡◌, ◌∙◌, ◌-◌, ap, map, sym, subst, refl, arith, false, [], same_Some, before, length-map, slice_get_within, decoded_hypothesis, is_hypothesis, hypothesis_at, typecode_at, float_variables, groups_in, disjoint_symbols, AreDescribed, AreGroupsOf, AreHypotheses, Assertion, names_in, labels_in, statements_of, stmt_of}
 use Rattle.std.proofs.lemmas.Result.{IfOk-weaker}
 use Rattle.frame.proofs.AssertionLemmas.{hypotheses-of, hypothesis-kinds}
-use Rattle.frame.proofs.AssertionViewLemmas.{is-there}
-use Rattle.frame.proofs.BufferedHypotheses.{filled-groups}
+use Rattle.frame.proofs.AssertionViewLemmas.{is-there, there-groups}
 use Rattle.frame.proofs.frames.Frames.groups.Goals as goal
 
 pub encode_hypotheses-requires-clause-hypotheses : goal.encode_hypotheses-requires-clause-hypotheses
@@ -31,7 +30,7 @@ returns c =
       numbered_made = c.in_ok-encode_hypotheses.ensures.numbered_hypotheses ∙ ap (map (hypothesis_at k.entries)) c.deref.ensures.value;
       typecodes_made = c.in_ok-encode_hypotheses.ensures.typecodes ∙ ap (map (typecode_at k.entries)) c.deref.ensures.value;
     } in
-    let all = filled-groups k c.args.a t.0 s t.1 c.self.invariant c.requires.1.1 t.2 c.mandatory.new.list.items d described (rw (← c.self.view_is) at (c.in_ok-mandatory.ensures.listed s c.requires.1.0)) in
+    let all = there-groups k c.args.a t.0 s t.1 c.self.invariant c.requires.1.1 t.2 c.mandatory.new.list.items d described (rw (← c.self.view_is) at (c.in_ok-mandatory.ensures.listed s c.requires.1.0)) in
     let recorded = c.in_ok-record_variables.ensures.variables ∙ ap float_variables (c.new.ensures ∙ ap (map decoded_hypothesis) c.deref-2.ensures.value) in
     rw (← c.self.view_is) (IfOk-weaker c.find_groups.result _ _
     (λ groups e r h.

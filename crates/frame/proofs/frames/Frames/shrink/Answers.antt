@@ -8,7 +8,6 @@ invariant_of-self c =
       numbering = e.numbering;
       positions = e.positions;
       floats = e.floats;
-      replaced = e.replaced;
       ends = e.ends;
       entries = e.entries;
       disjoints = e.disjoints;

@@ -1,11 +1,19 @@
-use Rattle.nodes.proofs.Words.{List, ℕ, take, sym, subst, arith, take_all, take_more, DeliversAll}
-use Rattle.nodes.proofs.DeskLemmas.{delivers-push}
+use Rattle.std.proofs.Common.{not}
+use Rattle.nodes.proofs.Words.{◌≡◌, Bool, true, false, arith, ap, sym, ◌∙◌}
 use Rattle.nodes.proofs.shared_switch.SharedSwitch.deliver_all.Goals as goal
 
-pub loop-number-preserved : goal.loop-number-preserved
-loop-number-preserved g c =
-    subst (λ (ns : List ℕ). DeliversAll c.args.self.now.switch c.deliver_on.new.switch ns) (sym (take_more c.args.packets.now c.loop-number.number-index 0 c.loop-number-test.true))
-    (delivers-push c.args.self.now.switch c.loop-number.self.switch c.deliver_on.new.switch (take c.loop-number.number-index c.args.packets.now) _ c.deliver_on.result c.loop-number.invariant c.deliver_on.ensures.plays)
+pub returns-then-not-delivered-clause-delivers : goal.returns-then-not-delivered-clause-delivers
+returns-then-not-delivered-clause-delivers g c = record {
+  posted = c.deliver_all-delivered.result.posted;
+  is_committed = c.deliver_all-delivered.result.is_committed;
+  delivers = c.deliver_all-delivered.ensures.delivers;
+  silent = λ is. omega (arith, c.new.ensures.len);
+}
 
-pub returns : goal.returns
-returns g c = subst (λ (ns : List ℕ). DeliversAll c.args.self.now.switch c.loop-number.self.switch ns) (take_all _ _ (omega (arith, c.loop-number-test.false))) c.loop-number.invariant
+pub returns-clause-delivers : goal.returns-clause-delivers
+returns-clause-delivers g c = record {
+  posted = c.deliver_all-delivered.result.posted;
+  is_committed = c.deliver_all-delivered.result.is_committed;
+  delivers = c.deliver_all-delivered.ensures.delivers;
+  silent = λ is. (let never : true ≡ false = ap (λ (b : Bool). not b) (sym is) ∙ c.if-not-delivered.false in cc);
+}

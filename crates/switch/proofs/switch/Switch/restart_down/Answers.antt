@@ -4,7 +4,7 @@ use Rattle.switch.proofs.SwitchLemmas.{still_switch}
 use Rattle.switch.proofs.CallLemmas.{still_view}
 use Rattle.switch.proofs.DispatchLemmas.{in_stores, none_owed}
 use Rattle.switch.proofs.OwedLemmas.{room_still}
-use Rattle.switch.proofs.RecoveryLemmas.{no_memory, stays_down, stays_acts, can_commit_owed, low_m, staged_m, room_m, recovered, recovered_acts}
+use Rattle.switch.proofs.RecoveryLemmas.{not_up, no_memory, stays_down, stays_acts, can_commit_owed, low_m, staged_m, room_m, recovered, recovered_acts}
 use Rattle.switch.proofs.RecoveryRefused.{recover_spent, recover_unready}
 use Rattle.switch.proofs.TieLemmas.{answers, answers_memory, down_err}
 use Rattle.switch.proofs.switch.Switch.restart_down.Goals as goal
@@ -50,6 +50,10 @@ pub index_mut-requires : goal.index_mut-requires
 index_mut-requires g c =
     let low = (in_stores g.V.Value.bytes _ _ c.stage.ensures.only_capacity c.self.inside.stores.items c.self.invariant _ c.self.view_is c.in_ok-staged.staged c.in_ok-staged.ensures.staged c.at-at.result c.at-at.ensures) in
     omega (arith, low, c.self.inside.stores.ok.0)
+
+pub bring_up-requires : goal.bring_up-requires
+bring_up-requires g c =
+    not_up g.V.Value.bytes c.reserve.new.self c.self.inside.stores.items (still_switch g.V.Value.bytes _ _ c.self.invariant c.reserve.new.self (still_more _ _ _ c.stage.ensures.only_capacity c.reserve.ensures.only_capacity)) _ (still_view _ _ c.self.inside.stores.items (still_more _ _ _ c.stage.ensures.only_capacity c.reserve.ensures.only_capacity) ∙ c.self.view_is) c.in_ok-staged.staged (staged_still g.V.Value.bytes _ _ c.in_ok-staged.staged c.reserve.ensures.only_capacity c.in_ok-staged.ensures.staged) c.args.k c.in_ok-staged.ensures.event c.in_ok-staged.ensures.kind c.at-at.result c.at-at.ensures c.index_mut.result.now c.index_mut.ensures.value (in_stores g.V.Value.bytes _ _ c.stage.ensures.only_capacity c.self.inside.stores.items c.self.invariant _ c.self.view_is c.in_ok-staged.staged c.in_ok-staged.ensures.staged c.at-at.result c.at-at.ensures) c.requires (sym c.is_unloaded.ensures ∙ c.if-is_unloaded.false) (room_still _ _ c.reserve.ensures.only_capacity (room_still _ _ c.stage.ensures.only_capacity (omega (arith, ap (λ (es : List (Event g.row.V.Denot)). length es) c.history.ensures.events, c.if-left-lt2.false, c.event_limit.ensures, c.history.ensures.few))))
 
 pub invariant_of-self-in_err-pending : goal.invariant_of-self-in_err-pending
 invariant_of-self-in_err-pending g c =

@@ -35,7 +35,7 @@ pub invariant_of-self-2 : goal.invariant_of-self-2
 invariant_of-self-2 g c =
     (let staged : IsStaged g.V.Value.bytes c.stage.new.self (with_record c.in_ok-staged.staged c.in_ok-record.record.kept) = loaded_staged g.V.Value.bytes _ c.in_ok-staged.staged c.in_ok-staged.ensures.staged c.args.k c.in_ok-record.record.kept c.in_ok-staged.ensures.kind (c.in_ok-record.ensures.loaded ∙ kept_is g.V.Value.bytes _ _ c.stage.ensures.only_capacity c.self.inside.stores.items c.self.invariant _ c.self.view_is c.in_ok-staged.staged c.in_ok-staged.ensures.staged c.at-at.result c.at-at.ensures (Restart c.args.k) c.in_ok-staged.ensures.event c.in_ok-staged.ensures.few c.index_mut.result.now c.index_mut.ensures.value (λ x d. c.requires)) in
     let store = c.index_mut.result.now in
-    let stored = c.in_ok-record.ensures.same ∙ ap (λ (x : Option (Change g.row.V.Denot)). let s : StoreState g.row.V.Denot = record { kept = changed_by store.kept x; failures = store.failures; status = store.status } in s) (sym (loaded_change c.args.k c.in_ok-staged.staged.work c.in_ok-record.record.kept c.in_ok-staged.ensures.kind)) in
+    let stored = c.in_ok-record.ensures.same ∙ ap (λ (x : Option (Change g.row.V.Denot)). let s : StoreState g.row.V.Denot = record store { kept = changed_by store.kept x } in s) (sym (loaded_change c.args.k c.in_ok-staged.staged.work c.in_ok-record.record.kept c.in_ok-staged.ensures.kind)) in
     call_played g.V.Value.bytes _ _ c.stage.ensures.only_capacity c.self.inside.stores.items c.self.invariant _ c.self.view_is (with_record c.in_ok-staged.staged c.in_ok-record.record.kept) staged c.at-at.result c.at-at.ensures (Restart c.args.k) c.in_ok-staged.ensures.event c.in_ok-staged.ensures.few c.index_mut.result.now c.index_mut.ensures.value (λ x d. c.requires)
     c.load.new.self stored c.commit.new.self (subst (λ (x : StagedEvent g.row.V.Denot). IsTaken c.stage.new.self c.commit.new.self x) c.load-2.ensures c.commit.ensures.taken) c.commit.result c.commit.ensures.posted).0
 
@@ -43,6 +43,6 @@ pub returns : goal.returns
 returns g c =
     (let staged : IsStaged g.V.Value.bytes c.stage.new.self (with_record c.in_ok-staged.staged c.in_ok-record.record.kept) = loaded_staged g.V.Value.bytes _ c.in_ok-staged.staged c.in_ok-staged.ensures.staged c.args.k c.in_ok-record.record.kept c.in_ok-staged.ensures.kind (c.in_ok-record.ensures.loaded ∙ kept_is g.V.Value.bytes _ _ c.stage.ensures.only_capacity c.self.inside.stores.items c.self.invariant _ c.self.view_is c.in_ok-staged.staged c.in_ok-staged.ensures.staged c.at-at.result c.at-at.ensures (Restart c.args.k) c.in_ok-staged.ensures.event c.in_ok-staged.ensures.few c.index_mut.result.now c.index_mut.ensures.value (λ x d. c.requires)) in
     let store = c.index_mut.result.now in
-    let stored = c.in_ok-record.ensures.same ∙ ap (λ (x : Option (Change g.row.V.Denot)). let s : StoreState g.row.V.Denot = record { kept = changed_by store.kept x; failures = store.failures; status = store.status } in s) (sym (loaded_change c.args.k c.in_ok-staged.staged.work c.in_ok-record.record.kept c.in_ok-staged.ensures.kind)) in
+    let stored = c.in_ok-record.ensures.same ∙ ap (λ (x : Option (Change g.row.V.Denot)). let s : StoreState g.row.V.Denot = record store { kept = changed_by store.kept x } in s) (sym (loaded_change c.args.k c.in_ok-staged.staged.work c.in_ok-record.record.kept c.in_ok-staged.ensures.kind)) in
     call_played g.V.Value.bytes _ _ c.stage.ensures.only_capacity c.self.inside.stores.items c.self.invariant _ c.self.view_is (with_record c.in_ok-staged.staged c.in_ok-record.record.kept) staged c.at-at.result c.at-at.ensures (Restart c.args.k) c.in_ok-staged.ensures.event c.in_ok-staged.ensures.few c.index_mut.result.now c.index_mut.ensures.value (λ x d. c.requires)
     c.load.new.self stored c.commit.new.self (subst (λ (x : StagedEvent g.row.V.Denot). IsTaken c.stage.new.self c.commit.new.self x) c.load-2.ensures c.commit.ensures.taken) c.commit.result c.commit.ensures.posted).1

@@ -1,4 +1,4 @@
-use Rattle.verify.proofs.Words.{◌++◌, ◌+◌, ◌∙◌, ap, before, take, sym, subst, start, IfOk, items_of, mandatory_labels, IsRight, IsAnswerIfAny, AreEntries}
+use Rattle.verify.proofs.Words.{◌++◌, ◌+◌, ◌∙◌, before, take, sym, subst, start, IfOk, items_of, mandatory_labels, IsRight, IsAnswerIfAny, AreEntries}
 use Rattle.std.specs.Prelude.{◌*◌}
 use Rattle.frame.specs.Sizes.{assertion_size}
 use Rattle.verify.proofs.CodeWorkLemmas.{compressed-counts, compressed-counts-none, counted-after, counted-none, counted-past, first-counted}

@@ -4,7 +4,7 @@ use Rattle.subst.proofs.PastLemmas.{err_weaker}
 use Rattle.subst.specs.ReadImages.{is_over}
 use Rattle.verify.proofs.PairCountLemmas.{past-left}
 use Rattle.verify.specs.Metered.{left_of, with_work}
-use Rattle.verify.proofs.Words.{◌≡◌, ◌∙◌, true, [], is_numbered_pair, pair_lists, filter, ap, sym, subst, images_at, IfOk-weaker, on_ok_weaker, are_numbered_lists_disjoint, AreOver, CodeImages}
+use Rattle.verify.proofs.Words.{◌≡◌, ◌∙◌, true, [], is_numbered_pair, pair_lists, filter, ap, sym, subst, images_at, IfOk-weaker, on_ok_weaker, are_numbered_lists_disjoint, AreOver, CodeImages, HeldResults}
 use Rattle.verify.proofs.results.Results.are_made_disjoint.Goals as goal
 
 pub are_made_lists_disjoint-all-requires-clause-named : goal.are_made_lists_disjoint-all-requires-clause-named
@@ -38,8 +38,8 @@ returns-clause-costly c =
       count = past.count;
       made = past.made;
       reordered = past.reordered;
-      past = past-left c.args.meter.now (lists_work c.args.pairs.now c.args.self.now.images lists)
-          (subst (λ (σ : CodeImages). is_over (left_of c.args.meter.now) (lists_work c.args.pairs.now σ lists) ≡ true) (ap (λ s. images_at s c.self.inside.images) c.as_slice.ensures.symbols ∙ ap (λ v. v.images) c.self.view_is)
-          (subst (λ l. is_over l (lists_work c.args.pairs.now (images_at c.as_slice.result.now c.self.inside.images) lists) ≡ true) (c.begin_citation.ensures.left ∙ c.left.ensures) past.past));
+      past = past-left (with_work c.args.meter.now c.args.self.now.results.weight) (lists_work c.args.pairs.now c.args.self.now.images lists)
+          (subst (λ (σ : CodeImages). is_over (left_of (with_work c.args.meter.now c.args.self.now.results.weight)) (lists_work c.args.pairs.now σ lists) ≡ true) (ap (λ s. images_at s c.self.inside.images) c.as_slice.ensures.symbols ∙ ap (λ v. v.images) c.self.view_is)
+          (subst (λ l. is_over l (lists_work c.args.pairs.now (images_at c.as_slice.result.now c.self.inside.images) lists) ≡ true) (c.begin_citation.ensures.left ∙ (c.left_after.ensures ∙ ap (λ (v : HeldResults). left_of (with_work c.args.meter.now v.results.weight)) c.self.view_is)) past.past));
     })
     c.are_made_lists_disjoint-all.ensures.costly

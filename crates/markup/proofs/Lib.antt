@@ -1,0 +1,3 @@
+pub mod AppendLemmas
+pub mod MarkupLemmas
+pub mod PageLemmas

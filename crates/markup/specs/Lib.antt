@@ -1,0 +1,11 @@
+pub mod Links
+pub mod Roles
+pub mod Descriptions
+pub mod Headings
+pub mod Ends
+pub mod IndexItems
+pub mod PagedRows
+pub mod Rows
+pub mod Drafts
+pub mod Families
+pub mod Pages
