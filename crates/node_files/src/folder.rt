@@ -7,7 +7,7 @@ ghost use Rattle.node_files.specs.Opened.{IsOpened};
 use crate::node_file::{FileNodeKeep, NodeFile};
 use crate::seen::{Seen, SeenFault};
 use crate::terms::{difference, id_in, library_text, terms_in, without_checksum};
-use file_keep::{ValueColumns, Witness};
+use file_keep::{NodeKeep, ValueColumns, Witness};
 use keep_folders::{FolderRefusal, FolderTerms, KeepFolder, KeptNode};
 use sqlite_trees::error::StoreError;
 use std::alloc::{AllocError, Global};
@@ -67,7 +67,7 @@ impl Folder {
     ) -> Result<Vec<KeptNode<FileNodeKeep<V, C>>>, FolderRefusal>
         ensures count { IfOk result (λ nodes. vec_len nodes ≡ length terms.now.weights) }
         ensures each { IfOk result (λ nodes. All
-            (λ node. IsOpened view recovers C.columns (is_some node.damage) node.keep) nodes.items) }
+            (λ node. IsOpened view recovers C.columns (is_some node.damage) node.keep.keep) nodes.items) }
     {
         let mut nodes = Vec::new(self.rt.alloc());
         for k in 0..terms.weights.count() {
@@ -98,14 +98,16 @@ impl Folder {
         k: u8,
     ) -> Result<KeptNode<FileNodeKeep<V, C>>, AllocError>
         ensures { IfOk result
-            (λ node. IsOpened view recovers C.columns (is_some node.damage) node.keep) }
+            (λ node. IsOpened view recovers C.columns (is_some node.damage) node.keep.keep) }
     {
         let damage = match self.open_node::<V, C>(k)? {
             Ok(keep) => return Ok(KeptNode { keep, damage: None }),
             Err(damage) => damage,
         };
         Ok(KeptNode {
-            keep: FileNodeKeep::damaged(self.node_file(k)?),
+            keep: FileNodeKeep {
+                keep: NodeKeep::damaged(self.node_file(k)?),
+            },
             damage: Some(damage),
         })
     }
@@ -116,7 +118,7 @@ impl Folder {
         k: u8,
     ) -> Result<Result<FileNodeKeep<V, C>, String>, AllocError>
         ensures { IfOk result (λ opened. IfOk opened
-            (λ node. IsSomeAnd node.open_keep (λ keep. IsDurable view recovers C.columns keep.keep))) }
+            (λ node. IsSomeAnd node.keep.open_keep (λ keep. IsDurable view recovers C.columns keep.keep))) }
     {
         let alloc = self.rt.alloc();
         let seen = match self.seen(k)? {
@@ -126,8 +128,8 @@ impl Folder {
         if !self.is_new && !self.has_file(k, seen.count())? {
             return Ok(Err(format!(in alloc; "node-{k}.db is missing or empty")?));
         }
-        match FileNodeKeep::open(alloc, self.node_file(k)?, seen) {
-            Ok(keep) => Ok(Ok(keep)),
+        match NodeKeep::open(alloc, self.node_file(k)?, seen) {
+            Ok(keep) => Ok(Ok(FileNodeKeep { keep })),
             Err(StoreError::OutOfMemory) => Err(AllocError),
             Err(StoreError::Corrupt) => Ok(Err(format!(in alloc;
                 "node-{k}.db is damaged, or has fewer changes than node-{k}.seen says"

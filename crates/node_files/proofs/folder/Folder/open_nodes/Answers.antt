@@ -10,6 +10,6 @@ pub loop-k-preserved : goal.loop-k-preserved
 loop-k-preserved g c = (
   c.in-Ok.ensures.len ∙ ap (λ (n : ℕ). n + 1) c.loop-k.invariant.0,
   rw c.in-Ok.ensures.items (All-push
-      (λ node. IsOpened view recovers g.C.ValueColumns.columns (is_some node.damage) node.keep)
+      (λ node. IsOpened view recovers g.C.ValueColumns.columns (is_some node.damage) node.keep.keep)
       c.loop-k.nodes.items c.in_ok-node.node c.loop-k.invariant.1 c.in_ok-node.ensures),
 )

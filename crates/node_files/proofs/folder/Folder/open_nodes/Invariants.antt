@@ -8,4 +8,4 @@ use Rattle.node_files.proofs.folder.Folder.open_nodes.Given as goal
 abbrev pub invariant-loop-k : goal.invariant-loop-k
 invariant-loop-k g l =
     (vec_len l.nodes ≡ l.k)
-    × All (λ node. IsOpened view recovers g.C.ValueColumns.columns (is_some node.damage) node.keep) l.nodes.items
+    × All (λ node. IsOpened view recovers g.C.ValueColumns.columns (is_some node.damage) node.keep.keep) l.nodes.items
