@@ -9,5 +9,5 @@ use Rattle.entry_rows.proofs.entry_columns.EntryColumns.TheSendSync as sent_colu
 use Rattle.mmlib.proofs.main.Goals as goal
 
 pub run-requires-send-K-Keep : goal.run-requires-send-K-Keep
-run-requires-send-K-Keep c κs = param_send _ _ (arg_send _ no _
+run-requires-send-K-Keep g c κs = param_send _ _ (arg_send _ no _
     (keep_send _ _ value.ghosts columns.ghosts sent_value.the_send sent_columns.the_send))
