@@ -7,7 +7,7 @@ use std::alloc::{AllocError, Global};
 use std::marker::Model;
 
 /// The maximum number of bytes that a `Word` stores inline, that is, without an allocation.
-const MAX_INLINE: usize = 22;
+const MAX_INLINE: usize = 14;
 
 /// Where the bytes of a word are stored.
 #[derive(Drop)]
@@ -38,7 +38,7 @@ impl Model for Word {
 }
 
 impl Word {
-    /// Returns the word with these bytes. It does not allocate for a word of at most 22 bytes.
+    /// Returns the word with these bytes. It does not allocate for a word of at most 14 bytes.
     ///
     /// Errors: an allocation fails. Cost: the length of the word.
     pub fn new(alloc: Global, bytes: &[u8]) -> Result<Word, AllocError>

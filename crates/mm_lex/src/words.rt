@@ -99,6 +99,14 @@ impl Words {
         self.text.is_empty()
     }
 
+    /// Frees the capacity that the words do not use. If no smaller block can be allocated, it
+    /// stays.
+    pub(crate) fn shrink(&mut self)
+        ensures { self.new ≡ self.old }
+    {
+        self.text.shrink_to_fit();
+    }
+
     /// Returns an equal list, in a buffer that is no larger than needed.
     ///
     /// Errors: an allocation fails. Cost: the size of the text of the list.

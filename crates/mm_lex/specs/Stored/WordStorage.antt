@@ -8,7 +8,7 @@ abbrev pub bytes_of : WordStorage → List ℕ
 bytes_of (Inline len bytes) = take len bytes
 bytes_of (Heap bytes) = bytes.value.items
 
--- an inline word has at most 22 bytes
+-- an inline word has at most 14 bytes
 abbrev pub IsLengthValid : WordStorage → Type 0
-IsLengthValid (Inline len bytes) = len ≤ 22
+IsLengthValid (Inline len bytes) = len ≤ 14
 IsLengthValid (Heap bytes) = ⊤
