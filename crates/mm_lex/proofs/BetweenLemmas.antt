@@ -1,5 +1,5 @@
 -- The tokens between two places of a text, joined over a third place, and the tokens after a place.
-use Rattle.mm_lex.proofs.Prelude.{◌≡◌, ℕ, ◌≤◌, true, List, [], ◌∷◌, ◌++◌, length, flat_map, None, Ok, Err, refl, sym, ◌∙◌, ap, arith, subst, append_assoc, append-nil, map-append, drop-length, and_from, and_parts, Span, LexFault, Text, Comment, Memory, Name, word, runs_from, IsPartOfRun, opener, is_plain, AllPlain, CommentAndTokens, all_spans, AreCommentsAndTokens, SplitsInto, words, IsCommentFaultOfRuns, runs_after, IsClosedAt, AreTokensBetween, AreTokensAfter, IsCommentFaultAfter, IsCommentFaultOrMemoryAfter}
+use Rattle.mm_lex.proofs.Prelude.{◌≡◌, ℕ, ◌≤◌, true, List, [], ◌∷◌, ◌++◌, length, flat_map, None, Ok, Err, refl, sym, ◌∙◌, ap, arith, subst, append_assoc, append-nil, map-append, and_from, and_parts, Span, LexFault, Text, Comment, Memory, Name, word, IsPartOfRun, opener, is_plain, AllPlain, CommentAndTokens, all_spans, AreCommentsAndTokens, SplitsInto, words, IsCommentFaultOfRuns, runs_after, IsClosedAt, AreTokensBetween, AreTokensAfter, IsCommentFaultAfter, IsCommentFaultOrMemoryAfter}
 use Rattle.mm_lex.proofs.ScanRuns.{Outcome, prepend, scan, scan_split, scan-split, scan-stops}
 use Rattle.mm_lex.proofs.ScanResults.{with_plain, with_comment, splits_as, no_runs, split-scan, stops-scan}
 
