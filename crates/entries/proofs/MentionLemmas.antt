@@ -96,12 +96,6 @@ set-with lists i ms lt d = by (nat_eq d i) refl
     by true e = get_or-set_at lists i d ms [] (grind (arith, e)) lt
     by false e = get_or-set_other lists i d ms [] (λ h. let is : nat_eq i i ≡ true = grind arith in cc)
 
-pub wider-same : (lists : List (List Mention)) (d : ℕ) → mentions_of (lists ++ [] ∷ []) d ≡ mentions_of lists d
-wider-same [] zero = refl
-wider-same [] (suc d) = refl
-wider-same (l ∷ lists) zero = refl
-wider-same (l ∷ lists) (suc d) = wider-same lists d
-
 -- ---- the mentions before a position
 
 pub before-below : (ms : List Mention) (at i : ℕ) (m : Mention) → slice_get (before at ms) i ≡ Some m → m.position < at

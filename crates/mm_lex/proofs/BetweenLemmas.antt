@@ -1,5 +1,5 @@
 -- The tokens between two places of a text, joined over a third place, and the tokens after a place.
-use Rattle.mm_lex.proofs.Prelude.{◌≡◌, ℕ, ◌≤◌, true, List, [], ◌∷◌, ◌++◌, length, flat_map, None, Ok, Err, refl, sym, ◌∙◌, ap, arith, subst, append_assoc, append-nil, map-append, drop-length, and_from, and_parts, Span, LexFault, Text, Comment, Memory, Name, word, runs_from, IsPartOfRun, opener, is_plain, AllPlain, CommentAndTokens, all_spans, AreCommentsAndTokens, SplitsInto, words, IsCommentFaultOfRuns, runs_after, IsClosedAt, AreTokensBetween, AreTokensAfter, IsCommentFaultAfter, IsCommentFaultOrMemoryAfter}
+use Rattle.mm_lex.proofs.Prelude.{◌≡◌, ℕ, ◌≤◌, true, List, [], ◌∷◌, ◌++◌, length, flat_map, None, Ok, Err, refl, sym, ◌∙◌, ap, arith, subst, append_assoc, append-nil, map-append, and_from, and_parts, Span, LexFault, Text, Comment, Memory, Name, word, IsPartOfRun, opener, is_plain, AllPlain, CommentAndTokens, all_spans, AreCommentsAndTokens, SplitsInto, words, IsCommentFaultOfRuns, runs_after, IsClosedAt, AreTokensBetween, AreTokensAfter, IsCommentFaultAfter, IsCommentFaultOrMemoryAfter}
 use Rattle.mm_lex.proofs.ScanRuns.{Outcome, prepend, scan, scan_split, scan-split, scan-stops}
 use Rattle.mm_lex.proofs.ScanResults.{with_plain, with_comment, splits_as, no_runs, split-scan, stops-scan}
 
@@ -101,12 +101,6 @@ module _ {text : List ℕ} where
   pub none_after : (at : ℕ) → runs_after text at ≡ [] → AreTokensAfter text at []
   none_after at none = ([], splits_as text (runs_after text at) [] [] none (no_runs text), refl)
 
-  -- no token is left after the end of the text
-  pub none_after_end : (at : ℕ) → length text ≤ at → at ≤ length text → AreTokensAfter text at []
-  none_after_end at end within =
-      let all : at ≡ length text = omega (arith, end, within) in
-      none_after at (ap (runs_after text) all ∙ ap (λ r. runs_from (length text) r) (drop-length text))
-
   -- the tokens after a place, given as an equal list of words
   pub after_as : (at : ℕ) {ws vs : List Name} → ws ≡ vs → AreTokensAfter text at ws → AreTokensAfter text at vs
   after_as at e are = subst (λ ws. AreTokensAfter text at ws) e are
@@ -168,12 +162,6 @@ module _ {text : List ℕ} where
       let b = scan-split text (runs_after text at) also.0 also.1 in
       let same : are.0 ≡ also.0 = cc in
       sym are.2 ∙ (ap (words text) same ∙ also.2)
-
-  -- a place with a list of tokens after it has no comment fault after it
-  pub after_no_stop : (at offset : ℕ) {ws : List Name} → AreTokensAfter text at ws → IsCommentFaultOfRuns text (runs_after text at) offset → ⊥
-  after_no_stop at offset are is =
-      let a = scan-split text (runs_after text at) are.0 are.1 in
-      let b = scan-stops text (runs_after text at) offset is in cc
 
 -- a comment fault is one also if an allocation may have failed
 pub stops_fail : (text : List ℕ) (at : ℕ) (fault : LexFault) → IsCommentFaultAfter text at fault → IsCommentFaultOrMemoryAfter text at fault

@@ -1,6 +1,5 @@
 -- The first space among eight bytes that are compared at once.
-use Rattle.mm_lex.proofs.Prelude.{◌≡◌, ℕ, ◌<◌, ◌≤◌, Bool, true, false, cond, nat_eq, nat_lt, List, Option, Some, None, length, take, map, refl, position, position_or_len, sym, ◌∙◌, ap, arith, eqb, ltb, replicate, w8, ◌%◌, ◌^◌, zip2, mask_l, top, count_trailing_zeros, bitmask_splat, trailing_mask_l, length-take-le}
-use Rattle.mm_lex.proofs.LanesLemmas.{first_among}
+use Rattle.mm_lex.proofs.Prelude.{◌≡◌, ℕ, Bool, cond, nat_eq, List, length, map, position_or_len, ◌∙◌, ap, arith, eqb, replicate, w8, ◌%◌, ◌^◌, zip2, mask_l, top, count_trailing_zeros, bitmask_splat, trailing_mask_l}
 
 abbrev pub is_space : ℕ → Bool
 is_space b = nat_eq b 32

@@ -35,10 +35,6 @@ module _ {text : List ℕ} where
 
   -- the symbols read from a place on into an empty list
   module _ {from at : ℕ} {words : List Name} (adds : AddsSymbols text from at [] words) where
-    -- each word of the list is a symbol
-    pub all_symbols : list_all is_symbol words ≡ true
-    all_symbols = ap (list_all is_symbol) adds.whole ∙ adds.symbols
-
     -- if the next token is no symbol, the list ends with it
     pub ends_with : (s : Span) → IsTokenAfter text at s → is_symbol (word text s) ≡ false → EndsSymbols text from words s
     ends_with s is other = record {

@@ -92,10 +92,6 @@ module _ {text : List ℕ} {from at : ℕ} (so : PassesPlain text from at) where
       plain = all_plain-push text so.passed s so.plain is_plain;
     }
 
-  -- if no run is left, all runs inside the comment are plain
-  pub inside_unclosed : runs_after text at ≡ [] → AllPlain text (runs_after text from)
-  inside_unclosed none = rw (so.whole ∙ (ap (λ r. so.passed ++ r) none ∙ append-nil so.passed)) so.plain
-
 -- ---- outside comments
 
 pub record SplitUpTo (text : List ℕ) (spans : List Span) (allocation_failed : Bool) (at : ℕ) : Type 0 where

@@ -46,10 +46,6 @@ module _ (text : List ℕ) where
   abbrev pub closes : Span → Bool
   closes s = name_eq (word text s) closer
 
-  -- whether a run of the text is plain
-  plain_test : Span → Bool
-  plain_test s = is_plain (word text s)
-
   -- ---- one run
 
   -- outside a comment, at a `$(`: the comment begins

@@ -33,6 +33,7 @@ pub fn symbols(alloc: Global, text: &[u8], from: usize) -> Result<(Words, Option
     while let Some(span) = next_token(text, at)? {
         let word = &text[span.start..span.end];
         if !is_symbol(word) {
+            words.shrink();
             return Ok((words, Some(span)));
         }
         words.push(word)?;
@@ -51,12 +52,13 @@ pub fn is_symbol(word: &[u8]) -> bool
     !word.contains(&b'$')
 }
 
-/// Returns an empty list with capacity for the words up to the next `$`.
+/// Returns an empty list with capacity for the words up to the next `$`. The white space before
+/// the first and after the last of them takes no room.
 fn with_estimated_capacity(alloc: Global, text: &[u8]) -> Result<Words, AllocError>
     ensures { IfOk result (λ words. words ≡ []) }
 {
     let room = memchr(b'$', text).unwrap_or(text.len());
-    Words::with_capacity(alloc, room)
+    Words::with_capacity(alloc, room.saturating_sub(2))
 }
 
 /// Appends symbols from `from` on, a piece at a time: a prefix of the rest, without the white space

@@ -6,13 +6,13 @@ ghost use Rattle.mm_lex.specs.Stored.WordStorage.{bytes_of, IsLengthValid};
 use std::alloc::{AllocError, Global};
 use std::marker::Model;
 
-/// The maximum number of bytes that a `Word` stores inline, that is, without an allocation.
-const MAX_INLINE: usize = 22;
+/// The maximum number of bytes that are stored inline, that is, without an allocation.
+pub(crate) const MAX_INLINE: usize = 14;
 
-/// Where the bytes of a word are stored.
+/// Where the bytes of a word, or of a list of words, are stored.
 #[derive(Drop)]
-enum WordStorage {
-    /// Here: the word is the first `len` of these bytes.
+pub enum WordStorage {
+    /// Here: they are the first `len` of these bytes.
     Inline { len: u8, bytes: [u8; MAX_INLINE] },
     /// On the heap: all bytes of the vector. The box keeps this variant no larger than `Inline`.
     Heap(Box<Vec<u8>>),
@@ -38,7 +38,7 @@ impl Model for Word {
 }
 
 impl Word {
-    /// Returns the word with these bytes. It does not allocate for a word of at most 22 bytes.
+    /// Returns the word with these bytes. It does not allocate for a word of at most 14 bytes.
     ///
     /// Errors: an allocation fails. Cost: the length of the word.
     pub fn new(alloc: Global, bytes: &[u8]) -> Result<Word, AllocError>
@@ -54,10 +54,7 @@ impl Word {
         ensures bytes { result.now ≡ self.now }
         ensures word { IsTrue (is_word self.now) }
     {
-        match &self.bytes {
-            WordStorage::Inline { len, bytes } => &bytes[..*len as usize],
-            WordStorage::Heap(bytes) => bytes.as_slice(),
-        }
+        stored_bytes(&self.bytes)
     }
 
     /// Returns an equal word.
@@ -70,8 +67,19 @@ impl Word {
     }
 }
 
+/// Returns the bytes.
+pub(crate) fn stored_bytes(storage: &WordStorage) -> &[u8]
+    requires { IsLengthValid storage.now }
+    ensures { result.now ≡ bytes_of storage.now }
+{
+    match storage {
+        WordStorage::Inline { len, bytes } => &bytes[..*len as usize],
+        WordStorage::Heap(bytes) => bytes.as_slice(),
+    }
+}
+
 /// Returns a copy of the bytes, inline if they fit.
-fn store_bytes(alloc: Global, bytes: &[u8]) -> Result<WordStorage, AllocError>
+pub(crate) fn store_bytes(alloc: Global, bytes: &[u8]) -> Result<WordStorage, AllocError>
     ensures bytes { IfOk result (λ kept. bytes_of kept ≡ bytes.now) }
     ensures valid { IfOk result IsLengthValid }
 {

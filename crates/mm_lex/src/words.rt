@@ -1,28 +1,32 @@
-//! A list of words in one buffer.
+//! A list of words in one text.
 ghost use Rattle.std.specs.Prelude.{◌≡◌, ◌↔◌, [], ◌∷◌, ◌++◌, ◌==◌, ◌≤◌, length, count_by, IsTrue};
 ghost use Rattle.std.specs.Prelude.{IfOk, OnOk, OnErr};
 ghost use Rattle.mm_lex.specs.Words.{spaced, words_of, is_word, AreWords};
+ghost use Rattle.mm_lex.specs.Stored.WordStorage.{bytes_of, IsLengthValid};
 
+use crate::word::{MAX_INLINE, WordStorage, store_bytes, stored_bytes};
 use crate::word_iter::WordIter;
 use std::alloc::{AllocError, Global};
 use std::marker::Model;
 
-/// A list of words. It stores them in one buffer, separated by single spaces. In contracts, a
-/// `Words` is the list of its words.
+/// A list of words. It stores them in one text, separated by single spaces: inline if the text is
+/// short. In contracts, a `Words` is the list of its words.
 #[derive(Drop)]
 pub struct Words {
-    text: Vec<u8>,
+    alloc: Global,
+    text: WordStorage,
 }
 
 impl Model for Words {
     ghost use Rattle.std.specs.Prelude.{ℕ, List};
     ghost use Rattle.mm_lex.specs.Words.{words_of, AreWords};
+    ghost use Rattle.mm_lex.specs.Stored.WordStorage.{bytes_of, IsLengthValid};
 
     ghost Value = { List (List ℕ) };
 
-    ghost view = { λ a. words_of a.text.items };
+    ghost view = { λ a. words_of (bytes_of a.text) };
 
-    ghost invariant = { λ a. AreWords (words_of a.text.items) };
+    ghost invariant = { λ a. IsLengthValid a.text × AreWords (words_of (bytes_of a.text)) };
 }
 
 impl Words {
@@ -31,18 +35,27 @@ impl Words {
         ensures { result ≡ [] }
     {
         Words {
-            text: Vec::new(alloc),
+            alloc,
+            text: WordStorage::Inline {
+                len: 0,
+                bytes: [0; MAX_INLINE],
+            },
         }
     }
 
-    /// Returns an empty list with capacity for `bytes` bytes, the spaces between words included.
+    /// Returns an empty list with capacity for `bytes` bytes, the spaces between words included. It
+    /// does not allocate for at most 14 bytes.
     ///
     /// Errors: an allocation fails.
     pub fn with_capacity(alloc: Global, bytes: usize) -> Result<Words, AllocError>
         ensures { IfOk result (λ words. words ≡ []) }
     {
-        let text = Vec::with_capacity(alloc, bytes)?;
-        Ok(Words { text })
+        if bytes <= MAX_INLINE {
+            return Ok(Words::new(alloc));
+        }
+        let buffer = Vec::with_capacity(alloc, bytes)?;
+        let text = WordStorage::Heap(Box::new(alloc, buffer)?);
+        Ok(Words { alloc, text })
     }
 
     /// Appends a word.
@@ -54,7 +67,7 @@ impl Words {
         ensures ok { OnOk result (self.new ≡ self.old ++ word.now ∷ []) }
         ensures err { OnErr result (self.new ≡ self.old) }
     {
-        push_words(&mut self.text, word)
+        extend_words(self.alloc, &mut self.text, word)
     }
 
     /// Appends the words of a text, in which they are separated by single spaces.
@@ -66,7 +79,7 @@ impl Words {
         ensures ok { OnOk result (self.new ≡ self.old ++ words_of text.now) }
         ensures err { OnErr result (self.new ≡ self.old) }
     {
-        push_words(&mut self.text, text)
+        extend_words(self.alloc, &mut self.text, text)
     }
 
     /// Returns the text of the list: the words, separated by single spaces. It copies nothing.
@@ -74,7 +87,7 @@ impl Words {
         ensures text { result.now ≡ spaced self.now }
         ensures words { AreWords self.now }
     {
-        self.text.as_slice()
+        stored_bytes(&self.text)
     }
 
     /// Returns an iterator over the words, in order.
@@ -82,21 +95,31 @@ impl Words {
         ensures words { result ≡ self.now }
         ensures visible { AreWords self.now }
     {
-        WordIter::new(self.text.as_slice())
+        WordIter::new(stored_bytes(&self.text))
     }
 
     /// Returns the number of words, which it counts. Cost: the size of their text.
     pub fn len(&self) -> usize
         ensures { result ≡ length self.now }
     {
-        count_words(self.text.as_slice())
+        count_words(stored_bytes(&self.text))
     }
 
     /// Returns whether there are no words.
     pub fn is_empty(&self) -> bool
         ensures { IsTrue result ↔ (self.now ≡ []) }
     {
-        self.text.is_empty()
+        stored_bytes(&self.text).is_empty()
+    }
+
+    /// Frees the capacity that the words do not use. If no smaller block can be allocated, it
+    /// stays.
+    pub(crate) fn shrink(&mut self)
+        ensures { self.new ≡ self.old }
+    {
+        if let WordStorage::Heap(buffer) = &mut self.text {
+            buffer.shrink_to_fit();
+        }
     }
 
     /// Returns an equal list, in a buffer that is no larger than needed.
@@ -105,9 +128,46 @@ impl Words {
     pub fn copy(&self, alloc: Global) -> Result<Words, AllocError>
         ensures { IfOk result (λ words. words ≡ self.now) }
     {
-        let text = Vec::from_slice(alloc, self.text.as_slice())?;
-        Ok(Words { text })
+        let text = store_bytes(alloc, stored_bytes(&self.text))?;
+        Ok(Words { alloc, text })
     }
+}
+
+/// Appends the words of `more` to those of the text. If an allocation fails, the text is unchanged.
+fn extend_words(alloc: Global, text: &mut WordStorage, more: &[u8]) -> Result<(), AllocError>
+    requires valid { IsLengthValid text.old }
+    requires words { AreWords (words_of (bytes_of text.old)) }
+    requires more { AreWords (words_of more.now) }
+    ensures ok { OnOk result (words_of (bytes_of text.new) ≡ words_of (bytes_of text.old) ++ words_of more.now) }
+    ensures words { AreWords (words_of (bytes_of text.new)) }
+    ensures err { OnErr result (bytes_of text.new ≡ bytes_of text.old) }
+    ensures valid { IsLengthValid text.new }
+{
+    match text {
+        WordStorage::Heap(buffer) => push_words(&mut **buffer, more),
+        WordStorage::Inline { .. } => {
+            let joined = join_words(alloc, stored_bytes(text), more)?;
+            *text = joined;
+            Ok(())
+        }
+    }
+}
+
+/// Returns the words of `text` and then those of `more`, inline if `text` is empty and they fit.
+fn join_words(alloc: Global, text: &[u8], more: &[u8]) -> Result<WordStorage, AllocError>
+    requires words { AreWords (words_of text.now) }
+    requires more { AreWords (words_of more.now) }
+    ensures joined { IfOk result (λ kept. words_of (bytes_of kept) ≡ words_of text.now ++ words_of more.now) }
+    ensures words { IfOk result (λ kept. AreWords (words_of (bytes_of kept))) }
+    ensures valid { IfOk result IsLengthValid }
+{
+    if text.is_empty() {
+        let kept = store_bytes(alloc, more)?;
+        return Ok(kept);
+    }
+    let mut buffer = Vec::from_slice(alloc, text)?;
+    push_words(&mut buffer, more)?;
+    Ok(WordStorage::Heap(Box::new(alloc, buffer)?))
 }
 
 /// Appends the words of `more` to those of `text`. If an allocation fails, `text` is unchanged.

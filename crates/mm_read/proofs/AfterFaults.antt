@@ -23,12 +23,6 @@ module _ (text : List ℕ) where
       subst (λ ts. IsShapeFault ts token) (append_assoc before ws r.0 ∙ ap (λ ts. before ++ ts) (sym r.2)) (is r.0 r.1)
   fault_back before has Memory is = tt
 
-  -- a comment fault is such a fault
-  pub comments_after : (at : ℕ) (before : List Name) (fault : LexFault) → IsCommentFaultAfter text at fault → IsFaultAfter text before at (read_fault fault)
-  comments_after at before (lex.Text offset) is = is
-  comments_after at before (lex.Comment offset) is = is
-  comments_after at before lex.Memory is = tt
-
   -- ---- at one token
 
   module _ (at : ℕ) (done : List Name) (p : ReaderState) (goes : go between done ≡ Some p) (inside : p ≡ between → ⊥) where

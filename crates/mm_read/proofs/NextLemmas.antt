@@ -53,11 +53,6 @@ module _ {text : List ℕ} where
         ∙ ap (λ r. old ∷ codes "$p" ∷ r) (sym (append_middle expr (codes "$=") [] (proof ++ codes "$." ∷ []))))
         (and_from _ _ (and_from _ _ (ap is_label same ∙ is) symbols) steps)
 
-  -- a `${` or a `$}`
-  pub bare_next : {from at : ℕ} {word : Name} (s : Stmt) (key : Name) → word ≡ key → from < at → AreTokensBetween text from at (word ∷ []) → stmt_tokens s ≡ key ∷ [] → is_shaped s ≡ true
-      → IsNext text from s at
-  bare_next s key e later has is shaped = record { shaped = shaped; later = later; between = between_as (ap (λ w. w ∷ []) e ∙ sym is) has }
-
   -- ---- the statements so far
 
   -- with one more statement, the tokens up to the later place read as the statements

@@ -80,10 +80,6 @@ module _ (text : List ℕ) (T : Database) (reads : Reads text T) where
   pub one_reading : (S : Database) → Reads text S → T ≡ S
   one_reading S also = one_statement_list T S reads.shaped also.shaped (same_tokens text (tokens_of T) (tokens_of S) reads.tokens also.tokens)
 
-  -- each of its bytes is allowed
-  pub read_no_bad_byte : {P : Type 0} (offset : ℕ) → IsFirstBadByte text offset → P
-  read_no_bad_byte offset is = bad_no_tokens text offset is (tokens_of T) reads.tokens
-
   -- it has no comment fault
   pub read_no_comment_fault : {P : Type 0} (offset : ℕ) → IsCommentFault text offset → P
   read_no_comment_fault offset is = absurd (no_comment_fault text reads.tokens.1.0 (tokens_of T) offset reads.tokens is)

@@ -1,14 +1,14 @@
--- How the bytes of one word are stored: inline, or in a box.
+-- How the bytes of a word, or of a list of words, are stored: inline, or in a box.
 use Rattle.std.specs.Prelude.{ℕ, ◌≤◌, ⊤, List, take}
 use Rattle.mm_lex.specs.declared.word.WordStorage.{WordStorage}
 use Rattle.mm_lex.specs.declared.word.WordStorage.TheVariants.{Inline, Heap}
 
--- the bytes of the word
+-- the bytes
 abbrev pub bytes_of : WordStorage → List ℕ
 bytes_of (Inline len bytes) = take len bytes
 bytes_of (Heap bytes) = bytes.value.items
 
--- an inline word has at most 22 bytes
+-- inline there are at most 14 bytes
 abbrev pub IsLengthValid : WordStorage → Type 0
-IsLengthValid (Inline len bytes) = len ≤ 22
+IsLengthValid (Inline len bytes) = len ≤ 14
 IsLengthValid (Heap bytes) = ⊤

@@ -12,7 +12,7 @@ pub returns-then-not-is_symbol-clause-end : goal.returns-then-not-is_symbol-clau
 returns-then-not-is_symbol-clause-end c =
     let text = c.args.text.now in
     let next : IsTokenAfter text c.loop-words.at c.in-Some.span = subst (IsNextToken text c.loop-words.at) c.in-Some.is c.in_ok-span.ensures.next in
-    ends_with c.loop-words.invariant c.in-Some.span next (sym c.if-not-is_symbol.ensures)
+    rw c.shrink.ensures (ends_with c.loop-words.invariant c.in-Some.span next (sym c.if-not-is_symbol.ensures))
 
 pub loop-words-preserved : goal.loop-words-preserved
 loop-words-preserved c =
