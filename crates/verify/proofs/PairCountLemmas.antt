@@ -1,11 +1,14 @@
 -- What is counted for the lists of the mandatory pairs of a citation.
-use Rattle.verify.proofs.Words.{◌≡◌, ℕ, zero, suc, ◌+◌, ◌-◌, ◌≤◌, ◌==◌, drop, take-append-drop, append_assoc, option_map, Option, None, ◌||◌, ◌&&◌, Bool, true, false, List, [], ◌∷◌, ◌++◌, filter, length, take, slice_get, Some, refl, sym, ◌∙◌, ap, subst, arith, nat_eq, nat_tests, true≢false, append-nil, list_all, CodeImages, Numbered, Name, Stmt, Database, stmt_at, before, decode, Hypothesis, AssertionView, AreBelow, AreDistinct, AreOver, HasAssertion, images_of_names, float_variables, is_numbered_pair, pair_lists, some-same}
-use Rattle.frame.specs.MandatoryPairs.{AreReordered, IsEachOnce, IsReordered, has_number, has_two_or_more_items, pairs_by}
+use Rattle.verify.proofs.Words.{◌≡◌, ℕ, zero, suc, ◌+◌, ◌-◌, ◌<◌, ◌≤◌, ◌==◌, cond, get_or, below-group, AllBelow, IsPairList, TellsDisjoint, are_groups_disjoint, are_numbered_lists_disjoint, mandatory_groups, drop, take-append-drop, append_assoc, option_map, Option, None, ◌||◌, Bool, true, false, List, [], ◌∷◌, ◌++◌, filter, length, take, slice_get, Some, refl, sym, ◌∙◌, ap, subst, arith, nat_eq, nat_tests, true≢false, append-nil, CodeImages, Numbered, Name, Stmt, Database, stmt_at, before, decode, Hypothesis, AssertionView, AreBelow, AreDistinct, AreOver, HasAssertion, images_of_names, float_variables, is_numbered_pair, pair_lists, some-same}
+use Rattle.frame.specs.MandatoryPairs.{AreMandatoryPairs, AreReordered, IsEachOnce, IsReordered, has_number, has_two_or_more_items, pairs_by}
 use Rattle.frame.proofs.BlockWalkLemmas.{take-one}
 use Rattle.frame.proofs.DisjointWorkLemmas.{lists-disjointness, read-push, work-push}
 use Rattle.frame.proofs.MandatoryVariableLemmas.{floats-once, variables-named}
+use Rattle.frame.proofs.PairDisjointLemmas.{kept-decide, made-decide}
+use Rattle.frame.proofs.PairListLemmas.{list-below, pair-lists-below, pair-lists-length, pairs-below}
 use Rattle.frame.proofs.SumLemmas.{filter-once}
 use Rattle.frame.specs.DisjointWork.{disjointness}
+use Rattle.frame.specs.Parts.{VariablePairs}
 use Rattle.frame.specs.NumberedWork.{list_work_after, lists_work, lists_work_after, read_after, read_all}
 use Rattle.frame.specs.Sizes.{mandatory_variables}
 use Rattle.std.proofs.lemmas.Bool.{or_parts}
@@ -13,10 +16,13 @@ use Rattle.std.proofs.lemmas.List.Elements.{filter-append}
 use Rattle.std.proofs.lemmas.List.Folds.{list_any-append}
 use Rattle.subst.proofs.PastLemmas.{past-more}
 use Rattle.subst.specs.ReadImages.{HasCounted, HasRead, IsPastList, ReadImages, is_over}
-use Rattle.verify.specs.Counted.{AreCounted, AreCountedPairs, AreMadeCounted, AreMadePast, ArePastLists, CountsIf, HasCountedLists, HasCountedMade, HasCountedPairs, IsPastPairs, is_past_with}
+use Rattle.verify.proofs.CountLemmas.{with-none}
+use Rattle.verify.specs.CitedPairs.{AreCitedAt, IsCitedList, cited_lists, list_of}
+use Rattle.verify.specs.Counted.{AreCounted, AreCountedPairs, AreMadeCounted, AreMadePast, ArePastLists, CountsIf, HasCountedMade, HasCountedPairs, IsPastPairs, is_past_with}
 use Rattle.verify.specs.Metered.{Metered, left_of, with_work}
 use Rattle.verify.specs.RunsItemByNumber.{IsCitedView, IsReady}
 use Rattle.verify.specs.declared.citation.ProofContext.{ProofContext}
+use Rattle.verify.specs.declared.disjointness.CitedPairs.{CitedPairs}
 
 -- ---- lists in another order
 
@@ -69,34 +75,92 @@ filter-reordered (l ∷ a) (m ∷ b) all = by (filter-reordered a b all.1) (has_
     by rest true e = rw (e, has-two l m all.0 ∙ e) (all.0, rest)
     by rest false e = rw (e, has-two l m all.0 ∙ e) rest
 
-and_first : (a b : Bool) → (a && b) ≡ true → a ≡ true
-and_first true b h = refl
-and_first false b h = h
-
-and_rest : (a b : Bool) → (a && b) ≡ true → b ≡ true
-and_rest true b h = h
-and_rest false b h = cc
-
--- lists in another order than those of two numbers or more have as many
-pub filter-kept : (xs b : List (List ℕ)) → AreReordered (filter has_two_or_more_items xs) b → filter has_two_or_more_items b ≡ b
-filter-kept xs b all = by (filter has_two_or_more_items xs) b (two xs) all
+-- leaving them out once more leaves out nothing
+filter-twice : (xs : List (List ℕ)) → filter has_two_or_more_items (filter has_two_or_more_items xs) ≡ filter has_two_or_more_items xs
+filter-twice [] = refl
+filter-twice (x ∷ xs) = by (filter-twice xs) (has_two_or_more_items x) refl
   where
-    two : (xs : List (List ℕ)) → list_all has_two_or_more_items (filter has_two_or_more_items xs) ≡ true
-    two [] = refl
-    two (x ∷ xs) = one (two xs) (has_two_or_more_items x) refl
-      where
-        one : list_all has_two_or_more_items (filter has_two_or_more_items xs) ≡ true → (t : Bool) → has_two_or_more_items x ≡ t → list_all has_two_or_more_items (filter has_two_or_more_items (x ∷ xs)) ≡ true
-        one rest true e = rw (e, e) rest
-        one rest false e = rw e rest
+    by : filter has_two_or_more_items (filter has_two_or_more_items xs) ≡ filter has_two_or_more_items xs → (t : Bool) → has_two_or_more_items x ≡ t
+        → filter has_two_or_more_items (filter has_two_or_more_items (x ∷ xs)) ≡ filter has_two_or_more_items (x ∷ xs)
+    by rest true e = rw (e, e) (ap (λ r. x ∷ r) rest)
+    by rest false e = rw e rest
 
-    by : (a b : List (List ℕ)) → list_all has_two_or_more_items a ≡ true → AreReordered a b → filter has_two_or_more_items b ≡ b
-    by [] [] t all = refl
-    by [] (m ∷ b) t all = absurd all
-    by (l ∷ a) [] t all = absurd all
-    by (l ∷ a) (m ∷ b) t all =
-        let first : has_two_or_more_items l ≡ true = and_first (has_two_or_more_items l) (list_all has_two_or_more_items a) t in
-        let rest : list_all has_two_or_more_items a ≡ true = and_rest (has_two_or_more_items l) (list_all has_two_or_more_items a) t in
-        rw (has-two l m all.0 ∙ first) (ap (λ r. m ∷ r) (by a b rest all.1))
+-- ---- the lists of a cited assertion
+
+pub reordered-length : (a b : List (List ℕ)) → AreReordered a b → length b ≡ length a
+reordered-length [] [] all = refl
+reordered-length [] (m ∷ b) all = absurd all
+reordered-length (l ∷ a) [] all = absurd all
+reordered-length (l ∷ a) (m ∷ b) all = ap suc (reordered-length a b all.1)
+
+-- the list at an index of lists that are kept
+pub kept-list : (c : CitedPairs) (names : List Name) (made : VariablePairs) (i : ℕ) → AreCitedAt names c → c.are_kept ≡ true → i < length (cited_lists c) → IsCitedList c i (list_of c made i)
+kept-list c names made i cited kept low =
+    let lists = pairs_by (is_numbered_pair c.active) (float_variables c.hypotheses) in
+    let here = at lists c.kept i (cited.kept kept) (subst (λ b. i < length (cond b lists (pair_lists (is_numbered_pair c.active) [] (float_variables c.hypotheses)))) kept low) in
+    subst (λ b. IsCitedList c i (cond b (get_or c.kept i []) made.list)) (sym kept)
+    (record { whole = here.0; stands = subst (λ b. slice_get (cond b lists (pair_lists (is_numbered_pair c.active) [] (float_variables c.hypotheses))) i ≡ Some here.0) (sym kept) here.1; reordered = here.2 })
+  where
+    at : (a b : List (List ℕ)) (i : ℕ) → AreReordered a b → i < length a → (whole : List ℕ) × (slice_get a i ≡ Some whole) × IsReordered whole (get_or b i [])
+    at [] b i all low = absurd (omega (arith, low))
+    at (l ∷ a) [] i all low = absurd all
+    at (l ∷ a) (m ∷ b) zero all low = (l, refl, all.0)
+    at (l ∷ a) (m ∷ b) (suc i) all low = at a b i all.1 (omega (arith, low))
+
+-- the list at an index of lists that are made
+pub made-list : (c : CitedPairs) (variables : List ℕ) (made : VariablePairs) (i : ℕ) → c.are_kept ≡ false → variables ≡ float_variables c.hypotheses → IsPairList c.active variables i made.list → IsCitedList c i (list_of c made i)
+made-list c variables made i kept same is =
+    subst (λ b. IsCitedList c i (cond b (get_or c.kept i []) made.list)) (sym kept)
+    (record {
+      whole = is.whole;
+      stands = subst (λ b. slice_get (cond b (pairs_by (is_numbered_pair c.active) (float_variables c.hypotheses)) (pair_lists (is_numbered_pair c.active) [] (float_variables c.hypotheses))) i ≡ Some is.whole) (sym kept)
+          (subst (λ vs. slice_get (pair_lists (is_numbered_pair c.active) [] vs) i ≡ Some is.whole) same is.stands);
+      reordered = is.reordered;
+    })
+
+-- how many lists there are
+pub count-kept : (c : CitedPairs) (names : List Name) → AreCitedAt names c → c.are_kept ≡ true → length c.kept ≡ length (cited_lists c)
+count-kept c names cited kept =
+    reordered-length (pairs_by (is_numbered_pair c.active) (float_variables c.hypotheses)) c.kept (cited.kept kept)
+    ∙ ap (λ b. length (cond b (pairs_by (is_numbered_pair c.active) (float_variables c.hypotheses)) (pair_lists (is_numbered_pair c.active) [] (float_variables c.hypotheses)))) (sym kept)
+
+pub count-made : (c : CitedPairs) → c.are_kept ≡ false → length (float_variables c.hypotheses) ≡ length (cited_lists c)
+count-made c kept =
+    sym (pair-lists-length (is_numbered_pair c.active) [] (float_variables c.hypotheses))
+    ∙ ap (λ b. length (cond b (pairs_by (is_numbered_pair c.active) (float_variables c.hypotheses)) (pair_lists (is_numbered_pair c.active) [] (float_variables c.hypotheses)))) (sym kept)
+
+-- its numbers are those of variables
+pub list-inside : (c : CitedPairs) (names : List Name) (i : ℕ) (list : List ℕ) → AreCitedAt names c → IsCitedList c i list → AreBelow (length names) list
+list-inside c names i list cited is = list-below (length names) is.whole list is.reordered (below-group (length names) (cited_lists c) i is.whole (all c.are_kept) is.stands)
+  where
+    p : ℕ → ℕ → Bool
+    p = is_numbered_pair c.active
+
+    all : (b : Bool) → AllBelow (length names) (cond b (pairs_by p (float_variables c.hypotheses)) (pair_lists p [] (float_variables c.hypotheses)))
+    all true = pairs-below (length names) p (float_variables c.hypotheses) cited.below
+    all false = pair-lists-below (length names) p [] (float_variables c.hypotheses) tt cited.below
+
+-- the lists are in their own order
+self-order : (c : CitedPairs) → AreReordered (cited_lists c) (cited_lists c)
+self-order c = by c.are_kept
+  where
+    all : List (List ℕ)
+    all = pair_lists (is_numbered_pair c.active) [] (float_variables c.hypotheses)
+
+    by : (b : Bool) → AreReordered (cond b (filter has_two_or_more_items all) all) (cond b (filter has_two_or_more_items all) all)
+    by true = filter-reordered all all (own-order (is_numbered_pair c.active) [] (float_variables c.hypotheses) (floats-once c.hypotheses))
+    by false = own-order (is_numbered_pair c.active) [] (float_variables c.hypotheses) (floats-once c.hypotheses)
+
+-- lists in their order are the mandatory pairs, but for those of fewer than two numbers
+pairs-ordered : (c : CitedPairs) (lists : List (List ℕ)) → AreReordered (cited_lists c) lists → AreReordered (pairs_by (is_numbered_pair c.active) (float_variables c.hypotheses)) (filter has_two_or_more_items lists)
+pairs-ordered c lists are = by c.are_kept are
+  where
+    all : List (List ℕ)
+    all = pair_lists (is_numbered_pair c.active) [] (float_variables c.hypotheses)
+
+    by : (b : Bool) → AreReordered (cond b (filter has_two_or_more_items all) all) lists → AreReordered (filter has_two_or_more_items all) (filter has_two_or_more_items lists)
+    by true h = subst (λ ls. AreReordered ls (filter has_two_or_more_items lists)) (filter-twice all) (filter-reordered (filter has_two_or_more_items all) lists h)
+    by false h = filter-reordered all lists h
 
 -- ---- one list more
 
@@ -124,14 +188,7 @@ module _ (v : Numbered) (σ : CodeImages) where
           subst (λ ls. AreCounted v σ ls new) (sym (filter-append has_two_or_more_items lists (list ∷ []) ∙ (ap (λ r. filter has_two_or_more_items lists ++ r) last ∙ append-nil (filter has_two_or_more_items lists))))
           (subst (AreCounted v σ (filter has_two_or_more_items lists)) (sym h) before)
 
-  -- of kept lists one more was counted
-  pub kept-more : (lists : List (List ℕ)) (i : ℕ) (list : List ℕ) (old new : ReadImages) → slice_get lists i ≡ Some list → AreCountedPairs v σ (take i lists) old
-      → CountsIf (has_two_or_more_items list) v σ list old new → AreCountedPairs v σ (take (i + 1) lists) new
-  kept-more lists i list old new stands before more =
-      let e : take (i + 1) lists ≡ take i lists ++ list ∷ [] = ap (λ n. take n lists) (let one : i + 1 ≡ suc i = omega arith in one) ∙ take-one lists i list stands in
-      subst (λ ls. AreCountedPairs v σ ls new) (sym e) (counts-more (take i lists) list old new before more)
-
-  -- of lists that are made one more was counted
+  -- one list more was counted
   pub made-more : (lists : List (List ℕ)) (i : ℕ) (whole list : List ℕ) (old new : ReadImages) → slice_get lists i ≡ Some whole → IsReordered whole list → AreMadeCounted v σ (take i lists) old
       → CountsIf (has_two_or_more_items list) v σ list old new → AreMadeCounted v σ (take (i + 1) lists) new
   made-more lists i whole list old new stands same before more =
@@ -167,15 +224,7 @@ module _ (v : Numbered) (σ : CodeImages) (left : Option ℕ) where
   next-list : (lists : List (List ℕ)) (i : ℕ) (list : List ℕ) → slice_get lists i ≡ Some list → take (i + 1) lists ≡ take i lists ++ list ∷ []
   next-list lists i list stands = ap (λ n. take n lists) (let one : i + 1 ≡ suc i = omega arith in one) ∙ take-one lists i list stands
 
-  -- kept lists, with one of which the count is past the limit
-  pub past-kept : (lists : List (List ℕ)) (i : ℕ) (list : List ℕ) (a : ReadImages) → slice_get lists i ≡ Some list → a.left ≡ left → AreCountedPairs v σ (take i lists) a
-      → (has_two_or_more_items list ≡ true) × IsPastList v σ list a → ArePastLists (is_over left) v σ lists
-  past-kept lists i list a stands same before past =
-      let e : take i lists ++ list ∷ drop (i + 1) lists ≡ lists
-      = sym (append_assoc (take i lists) (list ∷ []) (drop (i + 1) lists)) ∙ (ap (λ r. r ++ drop (i + 1) lists) (sym (next-list lists i list stands)) ∙ take-append-drop (i + 1) lists) in
-      subst (ArePastLists (is_over left) v σ) e (past-front (take i lists) (drop (i + 1) lists) list a same before past)
-
-  -- lists that are made, with one of which the count is past the limit
+  -- lists with one of which the count is past the limit
   pub past-made : (lists : List (List ℕ)) (i : ℕ) (whole list : List ℕ) (a : ReadImages) → slice_get lists i ≡ Some whole → IsReordered whole list → a.left ≡ left → AreMadeCounted v σ (take i lists) a
       → (has_two_or_more_items list ≡ true) × IsPastList v σ list a → AreMadePast (is_over left) v σ lists
   past-made lists i whole list a stands same limit before past = record {
@@ -207,58 +256,85 @@ pairs-work v D names ρ A s hs lists p q distinct over low named are =
     ap (λ w. lists_work w ρ lists) (numbered-same v D names p q)
     ∙ lists-disjointness (record { statements = D; names = names }) ρ A s hs lists distinct over low named are
 
-module _ (t : ProofContext) (a : ℕ) (ρ : CodeImages) (ready : IsReady t) (over : AreOver t.frames.now.names ρ) (c : AssertionView) (cited : IsCitedView t a c) (assertion : (s : Stmt) × HasAssertion t.frames.now.statements a s) (m m' : Metered) where
+module _ (t : ProofContext) (a : ℕ) (ρ : CodeImages) (ready : IsReady t) (over : AreOver t.frames.now.names ρ) (view : AssertionView) (cited : IsCitedView t a view) (assertion : (s : Stmt) × HasAssertion t.frames.now.statements a s)
+    (c : CitedPairs) (known : c.active ≡ record { statements = before t.frames.now.statements a; names = t.frames.now.names }) (same : c.hypotheses ≡ view.hypotheses) (m : Metered) where
   abbrev S : Database
   S = t.frames.now.statements
 
-  abbrev names : List Name
-  names = t.frames.now.names
-
-  has : (s : Stmt) → stmt_at S a ≡ Some s → HasAssertion S a s
-  has s stands = subst (HasAssertion S a) (some-same assertion.1.0 stands) assertion.1
-
-  listed : (s : Stmt) → stmt_at S a ≡ Some s → (lists : List (List ℕ)) → AreReordered (pairs_by (is_numbered_pair (record { statements = before S a; names = names })) (float_variables c.hypotheses)) lists
-      → lists_work t.pairs ρ lists ≡ disjointness (before S a) s (before S t.at) (images_of_names names ρ)
+  listed : (s : Stmt) → stmt_at S a ≡ Some s → (lists : List (List ℕ)) → AreReordered (cited_lists c) lists → lists_work t.pairs ρ (filter has_two_or_more_items lists) ≡ disjointness (before S a) s (before S t.at) (images_of_names t.frames.now.names ρ)
   listed s stands lists are =
       let is = cited s stands in
-      pairs-work t.pairs (before S t.at) names ρ (before S a) s c.hypotheses lists ready.active ready.names ready.legal.distinct over is.variables.below
-      (variables-named S names a s c ready.legal (has s stands) is) are
+      pairs-work t.pairs (before S t.at) t.frames.now.names ρ (before S a) s view.hypotheses (filter has_two_or_more_items lists) ready.active ready.names ready.legal.distinct over is.variables.below
+      (variables-named S t.frames.now.names a s view ready.legal (subst (HasAssertion S a) (some-same assertion.1.0 stands) assertion.1) is)
+      (subst (λ hs. AreReordered (pairs_by (is_numbered_pair (record { statements = before S a; names = t.frames.now.names })) (float_variables hs)) (filter has_two_or_more_items lists)) same
+      (subst (λ v. AreReordered (pairs_by (is_numbered_pair v) (float_variables c.hypotheses)) (filter has_two_or_more_items lists)) known (pairs-ordered c lists are)))
 
-  -- the lists that are kept
-  pub kept-pairs : c.pairs_listed ≡ true → HasCountedLists t.pairs ρ c.pairs m m' → HasCountedPairs t a ρ m m'
-  kept-pairs kept counted = λ s stands.
-      let are = (cited s stands).pairs kept in
-      counted ∙ ap (with_work m) (ap (lists_work t.pairs ρ) (filter-kept (pair_lists (is_numbered_pair (record { statements = before S a; names = names })) [] (float_variables c.hypotheses)) c.pairs are) ∙ listed s stands c.pairs are)
+  pub cited-pairs : (m' : Metered) → HasCountedMade t.pairs ρ (cited_lists c) m m' → HasCountedPairs t a ρ m m'
+  cited-pairs m' counted = λ s stands. counted.counted ∙ ap (with_work m) (listed s stands counted.made counted.reordered)
 
-  pub kept-past : c.pairs_listed ≡ true → ArePastLists (is_past_with m) t.pairs ρ c.pairs → IsPastPairs t a ρ m
-  kept-past kept past = λ s stands.
-      let are = (cited s stands).pairs kept in
-      subst (λ n. is_past_with m n ≡ true)
-      (ap (lists_work t.pairs ρ) (filter-kept (pair_lists (is_numbered_pair (record { statements = before S a; names = names })) [] (float_variables c.hypotheses)) c.pairs are) ∙ listed s stands c.pairs are) past
-
-  -- those that are made
-  pub made-pairs : (w : Numbered) (variables : List ℕ) → w.statements ≡ before S a → w.names ≡ names → variables ≡ float_variables c.hypotheses
-      → HasCountedMade t.pairs ρ (pair_lists (is_numbered_pair w) [] variables) m m' → HasCountedPairs t a ρ m m'
-  made-pairs w variables p q same counted = λ s stands.
-      let lists : pair_lists (is_numbered_pair w) [] variables ≡ pair_lists (is_numbered_pair (record { statements = before S a; names = names })) [] (float_variables c.hypotheses)
-      = ap (λ x. pair_lists (is_numbered_pair x) [] variables) (numbered-same w (before S a) names p q) ∙ ap (pair_lists (is_numbered_pair (record { statements = before S a; names = names })) []) same in
-      let are = filter-reordered _ counted.made (subst (λ ls. AreReordered ls counted.made) lists counted.reordered) in
-      counted.counted ∙ ap (with_work m) (listed s stands (filter has_two_or_more_items counted.made) are)
-
-  pub made-past : (w : Numbered) (variables : List ℕ) → w.statements ≡ before S a → w.names ≡ names → variables ≡ float_variables c.hypotheses
-      → AreMadePast (is_past_with m) t.pairs ρ (pair_lists (is_numbered_pair w) [] variables) → IsPastPairs t a ρ m
-  made-past w variables p q same past = λ s stands.
-      let lists = pair_lists (is_numbered_pair w) [] variables in
-      let is : lists ≡ pair_lists (is_numbered_pair (record { statements = before S a; names = names })) [] (float_variables c.hypotheses)
-      = ap (λ x. pair_lists (is_numbered_pair x) [] variables) (numbered-same w (before S a) names p q) ∙ ap (pair_lists (is_numbered_pair (record { statements = before S a; names = names })) []) same in
+  pub cited-past : AreMadePast (is_past_with m) t.pairs ρ (cited_lists c) → IsPastPairs t a ρ m
+  cited-past past = λ s stands.
+      let lists = cited_lists c in
       let all = past.made ++ drop past.count lists in
-      let own = own-order (is_numbered_pair w) [] variables (subst IsEachOnce (sym same) (floats-once c.hypotheses)) in
       let reordered : AreReordered lists all
       = subst (λ ls. AreReordered ls all) (take-append-drop past.count lists)
-      (reordered-append (take past.count lists) past.made (drop past.count lists) (drop past.count lists) past.reordered (reordered-drop past.count lists lists own)) in
-      let are = filter-reordered _ all (subst (λ ls. AreReordered ls all) is reordered) in
+      (reordered-append (take past.count lists) past.made (drop past.count lists) (drop past.count lists) past.reordered (reordered-drop past.count lists lists (self-order c))) in
       let first = filter has_two_or_more_items past.made in
       let whole = ap (lists_work t.pairs ρ) (filter-append has_two_or_more_items past.made (drop past.count lists)) in
       let front = works-front t.pairs ρ [] first (filter has_two_or_more_items (drop past.count lists)) in
-      subst (λ n. is_past_with m n ≡ true) (listed s stands (filter has_two_or_more_items all) are)
+      subst (λ n. is_past_with m n ≡ true) (listed s stands all reordered)
       (past-more m.limit (m.count + lists_work t.pairs ρ first) (m.count + lists_work t.pairs ρ (filter has_two_or_more_items all)) (omega (arith, whole, front)) past.past)
+
+  -- the lists decide whether the images are disjoint as the groups of the assertion do
+  pub cited-disjoint : (ok : Bool) → ok ≡ are_numbered_lists_disjoint t.pairs ρ (cited_lists c) → TellsDisjoint t a ρ ok
+  cited-disjoint ok told = λ s stands.
+      told
+      ∙ (ap (λ v. are_numbered_lists_disjoint v ρ (cited_lists c)) (numbered-same t.pairs (before S t.at) t.frames.now.names ready.active ready.names)
+      ∙ (ap (are_numbered_lists_disjoint (record { statements = before S t.at; names = t.frames.now.names }) ρ)
+      (ap (λ v. cond c.are_kept (pairs_by (is_numbered_pair v) (float_variables c.hypotheses)) (pair_lists (is_numbered_pair v) [] (float_variables c.hypotheses))) known
+      ∙ ap (λ hs. cond c.are_kept (pairs_by (is_numbered_pair own) (float_variables hs)) (pair_lists (is_numbered_pair own) [] (float_variables hs))) same)
+      ∙ decides s stands c.are_kept))
+    where
+      own : Numbered
+      own = record { statements = before S a; names = t.frames.now.names }
+
+      all : List (List ℕ)
+      all = pair_lists (is_numbered_pair own) [] (float_variables view.hypotheses)
+
+      decides : (s : Stmt) → stmt_at S a ≡ Some s → (b : Bool)
+          → are_numbered_lists_disjoint (record { statements = before S t.at; names = t.frames.now.names }) ρ (cond b (filter has_two_or_more_items all) all) ≡ are_groups_disjoint (before S t.at) (images_of_names t.frames.now.names ρ) (mandatory_groups (before S a) s)
+      decides s stands true =
+          kept-decide (before S t.at) (images_of_names t.frames.now.names ρ) t.frames.now.names own s view.hypotheses (filter has_two_or_more_items all) refl (cited s stands).variables.mandatory
+          (filter-reordered all all (own-order (is_numbered_pair own) [] (float_variables view.hypotheses) (floats-once view.hypotheses)))
+      decides s stands false = made-decide (before S t.at) (images_of_names t.frames.now.names ρ) t.frames.now.names own s (float_variables view.hypotheses) refl (cited s stands).variables.mandatory
+
+  pub cited-at : c.are_kept ≡ view.pairs_listed → c.kept ≡ view.pairs → AreCitedAt t.pairs.names c
+  cited-at listed kept =
+      let is = cited assertion.0 assertion.1.0 in
+      subst (λ names. AreCitedAt names c) (sym ready.names)
+      (record {
+        active = ap (λ v. v.names) known;
+        below = subst (λ hs. AreBelow (length t.frames.now.names) (float_variables hs)) (sym same) is.variables.below;
+        kept = λ h. subst (λ v. AreMandatoryPairs v c.hypotheses c.kept) (sym known)
+            (subst (λ hs. AreMandatoryPairs (record { statements = before S a; names = t.frames.now.names }) hs c.kept) (sym same)
+            (subst (AreMandatoryPairs (record { statements = before S a; names = t.frames.now.names }) view.hypotheses) (sym kept) (is.pairs (sym listed ∙ h))));
+      })
+
+-- an assertion without pairs
+pub none-listed : (t : ProofContext) (a : ℕ) (ρ : CodeImages) (ready : IsReady t) (over : AreOver t.frames.now.names ρ) (view : AssertionView) (cited : IsCitedView t a view) (assertion : (s : Stmt) × HasAssertion t.frames.now.statements a s) (m : Metered)
+    → view.pairs_listed ≡ true → length view.pairs ≡ 0 → HasCountedPairs t a ρ m m × TellsDisjoint t a ρ true
+none-listed t a ρ ready over view cited assertion m listed none =
+    let own : Numbered = record { statements = before t.frames.now.statements a; names = t.frames.now.names } in
+    let c : CitedPairs = record { are_kept = true; kept = view.pairs; hypotheses = view.hypotheses; active = own } in
+    let empty : AreReordered (pairs_by (is_numbered_pair own) (float_variables view.hypotheses)) [] = by (pairs_by (is_numbered_pair own) (float_variables view.hypotheses)) view.pairs none ((cited assertion.0 assertion.1.0).pairs listed) in (
+      cited-pairs t a ρ ready over view cited assertion c refl refl m m (record { made = []; reordered = empty; counted = with-none m }),
+      cited-disjoint t a ρ ready over view cited assertion c refl refl m true (all (pairs_by (is_numbered_pair own) (float_variables view.hypotheses)) empty),
+    )
+  where
+    by : (lists kept : List (List ℕ)) → length kept ≡ 0 → AreReordered lists kept → AreReordered lists []
+    by lists [] none are = are
+    by lists (l ∷ kept) none are = absurd (omega (arith, none))
+
+    all : (lists : List (List ℕ)) → AreReordered lists [] → true ≡ are_numbered_lists_disjoint t.pairs ρ lists
+    all [] are = refl
+    all (l ∷ lists) are = absurd are

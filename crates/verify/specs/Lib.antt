@@ -17,5 +17,6 @@ pub mod Plan
 pub mod Extents
 pub mod Proves
 pub mod Work
+pub mod CitedPairs
 pub mod Counted
 pub mod Laws

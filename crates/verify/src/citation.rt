@@ -15,6 +15,7 @@ ghost use Rattle.verify.specs.RunsItemByNumber.{AreNamed, HasCitedIn, RunsItemIn
 ghost use Rattle.verify.specs.ResultPlaces.{IsKept};
 ghost use Rattle.verify.specs.Walk.{IsHeardIn};
 
+use crate::disjointness::CitedPairs;
 use crate::label_table::LabelEntry;
 use crate::listener::Listener;
 use crate::meter::Meter;
@@ -108,12 +109,16 @@ fn are_images_disjoint(
         → IsPastPairs context.now position results.old.images
         (with_work meter.old results.old.results.weight)) }
 {
-    if cited.pairs_listed {
-        return results.are_disjoint(&context.pairs, &cited.pairs, meter);
+    if cited.pairs_listed && cited.pairs.len() == 0 {
+        return Ok(true);
     }
-    pair_buffer.begin(&cited.hypotheses.copy())?;
-    let cited_pairs = context.frames.active_pairs(position);
-    results.are_made_disjoint(&context.pairs, &cited_pairs, pair_buffer, meter)
+    let cited_pairs = CitedPairs {
+        are_kept: cited.pairs_listed,
+        kept: cited.pairs.copy(),
+        hypotheses: cited.hypotheses.copy(),
+        active: context.frames.active_pairs(position),
+    };
+    results.are_disjoint(&context.pairs, &cited_pairs, pair_buffer, meter)
 }
 
 /// Cites an assertion: pops the results for its hypotheses and pushes its result. Returns `false`
@@ -137,10 +142,10 @@ fn cite(
     ensures costly { IfErr result (λ stop. stop ≡ Stop.TooCostly
         → IsPastEntry context.now (LabelEntry.Assertion position) buffers.old.results meter.old) }
 {
-    meter.add(context.frames.size(position))?;
     let cited = context
         .frames
         .cited_view(position, &mut buffers.frame_buffers)?;
+    meter.add(context.frames.size(position))?;
     cite_by_view(
         context,
         position,

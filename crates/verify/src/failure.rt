@@ -78,12 +78,12 @@ pub(crate) fn run_items<L: Listener>(
     buffers.results.start();
     for (done, number) in numbers.iter().enumerate() {
         let was_done = step(context, table, *number, buffers, meter, listener)?;
-        if meter.is_past_with(buffers.results.weight() as u64) {
-            return Err(Stop::TooCostly);
-        }
         if !was_done {
             count_items(meter, done + 1, &buffers.results)?;
             return Ok(done);
+        }
+        if meter.is_past_with(buffers.results.weight() as u64) {
+            return Err(Stop::TooCostly);
         }
     }
     count_items(meter, numbers.len(), &buffers.results)?;

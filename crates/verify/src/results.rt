@@ -5,9 +5,7 @@ ghost use Rattle.std.specs.Prelude.{slice_get, nat_eq, ◌==◌, Some, is_some, 
 ghost use Rattle.std.specs.Prelude.{IfSome, OnOk, OnErr, IsTrue, drop, get_or, map, true};
 ghost use Rattle.std.specs.Prelude.{IfErr, MatchOption, false, ◌+◌};
 ghost use Rattle.frame.specs.AtPosition.{HasLegalProperties};
-ghost use Rattle.frame.specs.Below.{AllBelow, AreBelow};
-ghost use Rattle.frame.specs.ListsOfPairs.{is_numbered_pair};
-ghost use Rattle.frame.specs.MandatoryPairs.{pair_lists};
+ghost use Rattle.frame.specs.Below.{AllBelow};
 ghost use Rattle.frame.specs.Substitution.{code_apply, code_image};
 ghost use Rattle.names.specs.Codes.{AreDistinct};
 ghost use Rattle.std.specs.List.{list_all};
@@ -18,15 +16,15 @@ ghost use Rattle.verify.specs.HypothesisResults.{AreDifferent, ArePresent, HasSe
 ghost use Rattle.verify.specs.HypothesisResults.{LastResultsMatch, Reads, AreGiven};
 ghost use Rattle.subst.specs.DisjointImages.{are_numbers_disjoint, image_named};
 ghost use Rattle.subst.specs.Violations.{IsViolation};
-ghost use Rattle.verify.specs.Counted.{AreMadePast, ArePastLists, HasCountedLists, HasCountedMade};
-ghost use Rattle.verify.specs.Counted.{IsPastResult, is_past_with};
+ghost use Rattle.verify.specs.CitedPairs.{AreCitedAt, cited_lists};
+ghost use Rattle.verify.specs.Counted.{AreMadePast, HasCountedMade, IsPastResult, is_past_with};
 ghost use Rattle.verify.specs.Metered.{with_work};
 ghost use Rattle.verify.specs.ReadPlaces.{BeginsWith, ReadsAll, tail_of};
 ghost use Rattle.verify.specs.ResultPlaces.{Adds, IsKept, Marks, Recalls, below, top};
 ghost use Rattle.verify.specs.Right.{weight_limit};
 ghost use Rattle.verify.specs.Walk.{IsLastRange};
 
-use crate::disjointness::{are_lists_disjoint, are_made_lists_disjoint};
+use crate::disjointness::{CitedPairs, are_lists_disjoint};
 use crate::meter::Meter;
 use entries::{Groups, Hypotheses, Hypothesis};
 use frame::{Frames, PairBuffer, Pairs};
@@ -226,74 +224,34 @@ impl Results {
         true
     }
 
-    /// Returns whether the images are disjoint by these lists of pairs, at the statement of the
-    /// pairs: the image of the first variable of each list from those of the others. Counts them.
+    /// Returns whether the images are disjoint by the mandatory pairs of an assertion, at the
+    /// statement of the pairs: the image of the first variable of each list from those of the
+    /// others. Counts them.
     ///
     /// Errors: the meter is past its limit, the results counted too; an allocation fails. Cost: that
     /// of `disjointness::are_lists_disjoint`.
-    #[inline(always)]
     pub fn are_disjoint(
         &mut self,
         pairs: &Pairs<'_>,
-        lists: &Groups<'_>,
-        meter: &mut Meter,
-    ) -> Result<bool, Stop>
-        requires distinct { AreDistinct pairs.now.names }
-        requires over { AreOver pairs.now.names self.old.images }
-        requires below { AllBelow (length pairs.now.names) lists.now }
-        ensures same { self.new ≡ self.old }
-        ensures disjoint { IfOk result (λ ok. ok ≡ are_numbered_lists_disjoint pairs.now self.old.images lists.now) }
-        ensures counted { OnOk result (HasCountedLists pairs.now self.old.images lists.now meter.old meter.new) }
-        ensures costly { IfErr result (λ stop. stop ≡ Stop.TooCostly
-            → ArePastLists (is_past_with (with_work meter.old self.old.results.weight))
-            pairs.now self.old.images lists.now) }
-    {
-        if lists.len() == 0 {
-            return Ok(true);
-        }
-        self.disjoint_images
-            .begin_citation(meter.left_after(self.weight as u64));
-        let all = are_lists_disjoint(
-            &mut self.disjoint_images,
-            pairs,
-            self.symbols.as_slice(),
-            &self.images,
-            &lists.copy(),
-        );
-        meter.add(self.disjoint_images.work())?;
-        all
-    }
-
-    /// Returns whether the images are disjoint by the mandatory pairs of an assertion, whose lists
-    /// are made one by one: `cited` has the pairs there, and `made` its variables. Counts them.
-    ///
-    /// Errors: the meter is past its limit, the results counted too; an allocation fails. Cost: that
-    /// of `disjointness::are_made_lists_disjoint`.
-    pub fn are_made_disjoint(
-        &mut self,
-        pairs: &Pairs<'_>,
-        cited: &Pairs<'_>,
+        cited: &CitedPairs<'_>,
         made: &mut PairBuffer,
         meter: &mut Meter,
     ) -> Result<bool, Stop>
         requires distinct { AreDistinct pairs.now.names }
         requires over { AreOver pairs.now.names self.old.images }
-        requires names { cited.now.names ≡ pairs.now.names }
-        requires below { AreBelow (length pairs.now.names) made.old.variables }
+        requires cited { AreCitedAt pairs.now.names cited.now }
         ensures same { self.new ≡ self.old }
         ensures disjoint { IfOk result
-            (λ ok. ok ≡ are_numbered_lists_disjoint pairs.now self.old.images
-            (pair_lists (is_numbered_pair cited.now) [] made.old.variables)) }
+            (λ ok. ok ≡ are_numbered_lists_disjoint pairs.now self.old.images (cited_lists cited.now)) }
         ensures counted { OnOk result
-            (HasCountedMade pairs.now self.old.images
-            (pair_lists (is_numbered_pair cited.now) [] made.old.variables) meter.old meter.new) }
+            (HasCountedMade pairs.now self.old.images (cited_lists cited.now) meter.old meter.new) }
         ensures costly { IfErr result (λ stop. stop ≡ Stop.TooCostly
-            → AreMadePast (is_past_with (with_work meter.old self.old.results.weight)) pairs.now self.old.images
-            (pair_lists (is_numbered_pair cited.now) [] made.old.variables)) }
+            → AreMadePast (is_past_with (with_work meter.old self.old.results.weight)) pairs.now
+            self.old.images (cited_lists cited.now)) }
     {
         self.disjoint_images
             .begin_citation(meter.left_after(self.weight as u64));
-        let all = are_made_lists_disjoint(
+        let all = are_lists_disjoint(
             &mut self.disjoint_images,
             pairs,
             self.symbols.as_slice(),
