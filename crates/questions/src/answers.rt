@@ -1,7 +1,9 @@
 //! The answers to questions about a library.
-ghost use Rattle.std.specs.Prelude.{◌≡◌, IfOk};
+ghost use Rattle.std.specs.Prelude.{◌≡◌, ◌++◌, count_by, IfOk, OnOk};
 ghost use Rattle.library.specs.Queries.{IsTreeOf};
 ghost use Rattle.verify.specs.Derivations.{Derivation};
+ghost use Rattle.scope.specs.Active.{is_provable};
+ghost use Rattle.questions.specs.AllFaults.{counted_line};
 ghost use Rattle.printed.specs.Trees.{tree_lines};
 
 use crate::fault::Fault;
@@ -97,17 +99,14 @@ fn proved_line(alloc: Global, statements: &[Stmt]) -> Result<Vec<u8>, AllocError
 /// Returns the line `proved N of N`, where N is the number of `$p`.
 fn all_proved_line(alloc: Global, statements: &[Stmt]) -> Result<Vec<u8>, AllocError> {
     let mut line = Vec::new(alloc);
-    push_proved(&mut line, statements, 0)?;
+    push_proved(&mut line, count_of_proofs(statements), 0)?;
     Ok(line)
 }
 
-/// Appends the line `proved N of M`: there are M `$p`, and all but `unproved` of them are proved.
-pub fn push_proved(
-    line: &mut Vec<u8>,
-    statements: &[Stmt],
-    unproved: usize,
-) -> Result<(), AllocError> {
-    let all = count_of_proofs(statements);
+/// Appends the line `proved N of M`: there are `all` `$p`, and all but `unproved` of them are proved.
+pub fn push_proved(line: &mut Vec<u8>, all: usize, unproved: usize) -> Result<(), AllocError>
+    ensures { OnOk result (line.new.items ≡ line.old.items ++ counted_line all unproved) }
+{
     line.extend_from_slice(b"proved ")?;
     push_number(line, all.saturating_sub(unproved) as u64)?;
     line.extend_from_slice(b" of ")?;
@@ -116,14 +115,20 @@ pub fn push_proved(
 }
 
 /// Returns how many of the statements are `$p`.
-fn count_of_proofs(statements: &[Stmt]) -> usize {
-    let mut count = 0usize;
-    for statement in statements {
-        if let Stmt::Prove { .. } = statement {
-            count = count.saturating_add(1);
-        }
-    }
-    count
+pub fn count_of_proofs(statements: &[Stmt]) -> usize
+    ensures { result ≡ count_by is_provable statements.now }
+{
+    statements
+        .iter()
+        .filter(|statement| is_provable(*statement))
+        .count()
+}
+
+/// Returns whether a statement is a `$p`.
+pub fn is_provable(statement: &Stmt) -> bool
+    ensures { result ≡ is_provable statement.now }
+{
+    matches!(statement, Stmt::Prove { .. })
 }
 
 /// Returns a line for each assertion.

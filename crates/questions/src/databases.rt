@@ -1,4 +1,5 @@
 //! Commands about a database: they read and check it, and answer the question.
+use crate::all_faults::print_all_faults;
 use crate::answers::write_answer;
 use crate::fault::Fault;
 use crate::named_text::NamedText;
@@ -135,7 +136,7 @@ fn note_if_empty<F: Write>(library: &Library, question: &Question<'_>, stderr: &
 }
 
 /// Prints the answer about a text that is refused: the refusal, unless a `$p` is not proved and the
-/// question is answered even then.
+/// question is answered even then, or all faults are asked for.
 fn answer_refused<R: AllocGlobal + Threads + Sync, O: Write, F: Write>(
     rt: &R,
     request: &DatabaseQuestion<'_>,
@@ -149,6 +150,10 @@ fn answer_refused<R: AllocGlobal + Threads + Sync, O: Write, F: Write>(
         if let Some(status) = answer_unproved(rt, request, text, output, stderr)? {
             return Ok(status);
         }
+    }
+    let is_faulty = matches!(cause, Cause::Text | Cause::Shape | Cause::Rule { .. });
+    if is_faulty && matches!(request.question, Question::CheckEach) {
+        return print_all_faults(rt, text, output, stderr);
     }
     print_refused_text(rt.alloc(), text, cause, output, stderr)
 }
