@@ -10,10 +10,17 @@ use Rattle.scope.proofs.ActiveLemmas.{count-append}
 use Rattle.scope.proofs.LegalLemmas.{legal-close}
 use Rattle.scope.specs.Legal.{IsLegal}
 use Rattle.scope.specs.declared.rule.Rule.{Rule}
+use Rattle.std.specs.Iterator.{Yields}
+use Rattle.std.specs.Vec.Iter.{into_iter_items, into_iter_steps}
+use Rattle.std.specs.declared.vec.IntoIter.{IntoIter}
 use Rattle.unproved.specs.declared.legal_part.LeftOut.{LeftOut}
 use Rattle.unproved.specs.LegalPart.{Sifted, both, sift_by, sift_one, sift_from, sifted, frames_after, open_after, open_step, closed}
 
 -- ---- one statement more
+
+one-is : (w : Sifted) (at : ℕ) (s : Stmt) → sift_one w at s ≡ sift_by w at s (broken_rule w.kept s)
+unfolding sift_one
+one-is w at s = refl
 
 sift-snoc : (w : Sifted) (at : ℕ) (S : Database) (s : Stmt) → sift_from w at (S ++ s ∷ []) ≡ sift_one (sift_from w at S) (at + length S) s
 sift-snoc w at [] s = let none : at ≡ at + 0 = omega arith in ap (λ n. sift_one w n s) none
@@ -33,7 +40,7 @@ module _ (S kept frames : Database) (left : List LeftOut) (s : Stmt) (position :
   step =
       ap (λ w. sift_by w position s broken) whole
       ∙ (ap (λ r. sift_by (sifted S) position s r) rule
-      ∙ (ap (λ n. sift_one (sifted S) n s) place ∙ sym (sift-snoc (both [] []) 1 S s)))
+      ∙ (sym (one-is (sifted S) position s) ∙ (ap (λ n. sift_one (sifted S) n s) place ∙ sym (sift-snoc (both [] []) 1 S s))))
 
   pub kept-more : (new : Database) → new ≡ (sift_by (both kept left) position s broken).kept → new ≡ (sifted (S ++ s ∷ [])).kept
   kept-more new e = e ∙ ap (λ w. w.kept) step
@@ -44,7 +51,7 @@ module _ (S kept frames : Database) (left : List LeftOut) (s : Stmt) (position :
 pub frames-more : (r : Option Rule) (frames frames' kept kept' : Database) (left : List LeftOut) (at : ℕ) (s : Stmt) → frames ≡ bares kept → frames' ≡ frames_after r frames s
     → kept' ≡ (sift_by (both kept left) at s r).kept → frames' ≡ bares kept'
 frames-more None frames frames' kept kept' left at s are more is = more ∙ (ap (λ U. U ++ bare s ∷ []) are ∙ (sym (map-append bare kept (s ∷ [])) ∙ ap bares (sym is)))
-frames-more (Some rule) frames frames' kept kept' left at s are more is = more ∙ (are ∙ ap bares (sym is))
+frames-more (Some broken) frames frames' kept kept' left at s are more is = more ∙ (are ∙ ap bares (sym is))
 
 -- ---- the kept statements are well shaped
 
@@ -56,13 +63,13 @@ all-push (r ∷ S) s all one =
 
 shaped-by : (w : Sifted) (at : ℕ) (s : Stmt) (r : Option Rule) → AreShaped w.kept → is_shaped s ≡ true → AreShaped (sift_by w at s r).kept
 shaped-by w at s None all one = all-push w.kept s all one
-shaped-by w at s (Some rule) all one = all
+shaped-by w at s (Some broken) all one = all
 
 shaped-from : (w : Sifted) (at : ℕ) (S : Database) → AreShaped w.kept → AreShaped S → AreShaped (sift_from w at S).kept
 shaped-from w at [] all are = all
 shaped-from w at (s ∷ S) all are =
     let parts = and_parts (is_shaped s) (list_all is_shaped S) are in
-    shaped-from (sift_one w at s) (suc at) S (shaped-by w at s (broken_rule w.kept s) all parts.0) parts.1
+    shaped-from (sift_one w at s) (suc at) S (subst (λ v. AreShaped v.kept) (sym (one-is w at s)) (shaped-by w at s (broken_rule w.kept s) all parts.0)) parts.1
 
 pub shaped-closes : (S : Database) (n : ℕ) → AreShaped S → AreShaped (S ++ replicate n Close)
 shaped-closes [] zero all = refl
@@ -88,11 +95,11 @@ legal-push S (a ∷ A) s all one = (all.0, legal-push (S ++ a ∷ []) A s all.1 
 
 legal-by : (w : Sifted) (at : ℕ) (s : Stmt) (r : Option Rule) → broken_rule w.kept s ≡ r → AreLegal [] w.kept → AreLegal [] (sift_by w at s r).kept
 legal-by w at s None is all = legal-push [] w.kept s all is
-legal-by w at s (Some rule) is all = all
+legal-by w at s (Some broken) is all = all
 
 legal-from : (w : Sifted) (at : ℕ) (S : Database) → AreLegal [] w.kept → AreLegal [] (sift_from w at S).kept
 legal-from w at [] all = all
-legal-from w at (s ∷ S) all = legal-from (sift_one w at s) (suc at) S (legal-by w at s (broken_rule w.kept s) refl all)
+legal-from w at (s ∷ S) all = legal-from (sift_one w at s) (suc at) S (subst (λ v. AreLegal [] v.kept) (sym (one-is w at s)) (legal-by w at s (broken_rule w.kept s) refl all))
 
 -- so many blocks are open after statements
 abbrev IsDepth : ℕ → Database → Type 0
@@ -106,9 +113,12 @@ module _ (S : Database) (depth : ℕ) (is : IsDepth depth S) where
   opened_more s = count-append is_open S (s ∷ [])
 
   depth-step : (s : Stmt) → IsLegal S s → IsDepth (open_step depth s) (S ++ s ∷ [])
-  depth-step Open legal = omega (arith, is, closed_more Open, opened_more Open)
-  depth-step Close legal = omega (arith, is, closed_more Close, opened_more Close, ltb-true (count is_close S) (count is_open S) (legal-close S legal))
-  depth-step s legal = omega (arith, is, closed_more s, opened_more s)
+  depth-step Open _ = omega (arith, is, closed_more Open, opened_more Open)
+  depth-step Close legal = close-step (ltb-true (count is_close S) (count is_open S) (legal-close S legal))
+    where
+      close-step : count is_close S < count is_open S → IsDepth (depth - 1) (S ++ Close ∷ [])
+      close-step less = omega (arith, is, closed_more Close, opened_more Close, less)
+  depth-step s _ = omega (arith, is, closed_more s, opened_more s)
 
 depth-from : (S A : Database) (depth : ℕ) → AreLegal S A → IsDepth depth S → IsDepth (open_after depth A) (S ++ A)
 depth-from S [] depth legal is = subst (IsDepth depth) (sym (append-nil S)) is
@@ -141,9 +151,6 @@ module _ (S kept all : Database) (kept_is : kept ≡ (sifted S).kept) (all_is : 
 
   pub part-legal : AllLegal all
   part-legal = subst AllLegal (sym same) (legal-closed S)
-
-  pub part-kept : (made : Database) → made ≡ all → made ≡ closed (sifted S).kept
-  part-kept made is = is ∙ same
 
 -- ---- a list that is gone over from the front
 

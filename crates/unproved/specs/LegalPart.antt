@@ -1,14 +1,15 @@
 -- The statements that are left when each that breaks a rule is left out.
 -- Source: Metamath, 4.2 (the rules); that all others are judged is this project's choice.
 -- The code asks the rules of each statement after those that were kept.
-use Rattle.std.specs.Prelude.{◌≡◌, ℕ, suc, ◌-◌, nat_lt, if◌then◌else◌, List, [], ◌∷◌, ◌++◌, replicate, Option, Some, None}
+use Rattle.std.specs.Prelude.{◌≡◌, ℕ, suc, ◌-◌, length, nat_lt, if◌then◌else◌, List, [], ◌∷◌, ◌++◌, replicate, Option, Some, None}
 use Rattle.library.specs.Words.{Stmt, Database}
 use Rattle.mm_read.specs.declared.stmt.Stmt.TheVariants.{Open, Close}
-use Rattle.scope.specs.Active.{bare}
+use Rattle.scope.specs.Active.{bare, bares}
 use Rattle.scope.specs.Legal.{broken_rule}
 use Rattle.scope.specs.declared.rule.Rule.{Rule}
 use Rattle.unproved.specs.declared.legal_part.LegalPart.{LegalPart}
 use Rattle.unproved.specs.declared.legal_part.LeftOut.{LeftOut}
+use Rattle.unproved.specs.declared.legal_part.Sifter.{Sifter}
 
 -- the statements that are kept, and those that are left out
 pub record Sifted : Type 0 where
@@ -24,7 +25,7 @@ sift_by w at s None = record { kept = w.kept ++ s ∷ []; left_out = w.left_out 
 sift_by w at s (Some rule) = record { kept = w.kept; left_out = w.left_out ++ (record { position = at; rule = rule; statement = s }) ∷ [] }
 
 -- one statement more
-abbrev pub sift_one : Sifted → ℕ → Stmt → Sifted
+unfoldable pub sift_one : Sifted → ℕ → Stmt → Sifted
 sift_one w at s = sift_by w at s (broken_rule w.kept s)
 
 -- the statements from a position on
@@ -40,6 +41,14 @@ sifted S = sift_from (both [] []) 1 S
 abbrev pub frames_after : Option Rule → Database → Stmt → Database
 frames_after None S s = S ++ bare s ∷ []
 frames_after (Some rule) S s = S
+
+-- these statements are divided so, with the rules and the frames of those that are kept
+pub record IsSifted (S : Database) (w : Sifter) : Type 0 where
+  pub same : w.rules.statements ≡ w.frames.statements
+  pub frames : w.frames.statements ≡ bares w.kept.items
+  pub count : w.position ≡ length S
+  pub kept : w.kept.items ≡ (sifted S).kept
+  pub left_out : w.left_out.items ≡ (sifted S).left_out
 
 -- how many blocks are open after a statement
 abbrev pub open_step : ℕ → Stmt → ℕ

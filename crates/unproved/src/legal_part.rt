@@ -1,9 +1,9 @@
 //! The statements that are left when each that breaks a rule is left out.
-ghost use Rattle.std.specs.Prelude.{◌≡◌, suc, ◌+◌, ◌<◌, ◌^◌, length, IfOk, OnOk};
-ghost use Rattle.mm_read.specs.Statements.{AreShaped};
-ghost use Rattle.scope.specs.Legal.{broken_rule};
-ghost use Rattle.unproved.specs.LegalPart.{IsLegalPart, both, closed, frames_after, open_after};
-ghost use Rattle.unproved.specs.LegalPart.{open_step, sift_by, sifted, text_position};
+ghost use Rattle.std.specs.Prelude.{◌≡◌, suc, ◌+◌, ◌<◌, ◌^◌, [], ◌∷◌, ◌++◌, length, IfOk, OnOk};
+ghost use Rattle.mm_read.specs.Statements.{AreShaped, Database};
+ghost use Rattle.scope.specs.Legal.{AllLegal, broken_rule};
+ghost use Rattle.unproved.specs.LegalPart.{IsLegalPart, IsSifted, both, closed, frames_after};
+ghost use Rattle.unproved.specs.LegalPart.{open_after, open_step, sift_by, text_position};
 
 use crate::legal_database::LegalDatabase;
 use frame::Frames;
@@ -42,37 +42,85 @@ pub fn keep_legal(alloc: Global, statements: Vec<Stmt>) -> Result<LegalPart, All
     requires { AreShaped statements.items }
     ensures { IfOk result (IsLegalPart statements.items) }
 {
-    let (mut kept, left_out) = sift(alloc, statements)?;
+    let sifter = sift(alloc, statements)?;
+    let Sifter {
+        mut kept,
+        left_out,
+        ..
+    } = sifter;
     let open_blocks = close_blocks(&mut kept)?;
-    match LegalDatabase::new(alloc, kept)? {
-        Some(database) => Ok(LegalPart {
-            database,
-            open_blocks,
-            left_out,
-        }),
+    let database = legal_database(alloc, kept)?;
+    Ok(LegalPart {
+        database,
+        open_blocks,
+        left_out,
+    })
+}
+
+/// Makes a `LegalDatabase` of legal statements.
+///
+/// Errors: an allocation fails.
+fn legal_database(alloc: Global, statements: Vec<Stmt>) -> Result<LegalDatabase, AllocError>
+    requires shaped { AreShaped statements.items }
+    requires legal { AllLegal statements.items }
+    ensures { IfOk result (λ database. database ≡ statements.items) }
+{
+    match LegalDatabase::new(alloc, statements)? {
+        Some(database) => Ok(database),
         None => unreachable!(),
     }
+}
+
+/// The statements so far: those that are kept, with their rules and frames, and those that are left
+/// out.
+#[derive(Drop)]
+struct Sifter {
+    rules: Rules,
+    frames: Frames,
+    kept: Vec<Stmt>,
+    left_out: Vec<LeftOut>,
+    /// The position of the last one.
+    position: usize,
 }
 
 /// Divides the statements into those that are kept and those that are left out.
 ///
 /// Errors: an allocation fails.
-fn sift(alloc: Global, statements: Vec<Stmt>) -> Result<(Vec<Stmt>, Vec<LeftOut>), AllocError>
-    ensures kept { IfOk result (λ parts. parts.0.items ≡ (sifted statements.items).kept) }
-    ensures left_out { IfOk result (λ parts. parts.1.items ≡ (sifted statements.items).left_out) }
+fn sift(alloc: Global, statements: Vec<Stmt>) -> Result<Sifter, AllocError>
+    ensures { IfOk result (IsSifted statements.items) }
 {
-    let mut rules = Rules::new(alloc);
-    let mut frames = Frames::new(alloc);
-    let mut kept = Vec::new(alloc);
-    let mut left_out = Vec::new(alloc);
-    let mut position = 0usize;
+    let mut sifter = Sifter {
+        rules: Rules::new(alloc),
+        frames: Frames::new(alloc),
+        kept: Vec::new(alloc),
+        left_out: Vec::new(alloc),
+        position: 0,
+    };
     for statement in statements {
-        let next = next_position(position)?;
-        let broken = find_broken_rule(&mut rules, &mut frames, &statement)?;
-        take_statement(&mut kept, &mut left_out, broken, next, statement)?;
-        position = next;
+        sift_next(&mut sifter, statement)?;
     }
-    Ok((kept, left_out))
+    Ok(sifter)
+}
+
+/// Keeps the next statement, or leaves it out if it breaks a rule.
+///
+/// Errors: an allocation fails.
+fn sift_next(sifter: &mut Sifter, statement: Stmt) -> Result<(), AllocError>
+    requires { sifter.old.rules.statements ≡ sifter.old.frames.statements }
+    ensures { (S : Database) → IsSifted S sifter.old
+        → OnOk result (IsSifted (S ++ statement ∷ []) sifter.new) }
+{
+    let next = next_position(sifter.position)?;
+    let broken = find_broken_rule(&mut sifter.rules, &mut sifter.frames, &statement)?;
+    take_statement(
+        &mut sifter.kept,
+        &mut sifter.left_out,
+        broken,
+        next,
+        statement,
+    )?;
+    sifter.position = next;
+    Ok(())
 }
 
 /// Returns the position after this one.
