@@ -7,11 +7,8 @@ ghost use Rattle.questions.specs.AllFaults.{counted_line};
 ghost use Rattle.printed.specs.Trees.{tree_lines};
 
 use crate::fault::Fault;
-use crate::named_text::NamedText;
 use crate::proof_texts::write_export_with_proofs;
 use crate::proofs::write_proof;
-use crate::searches::matching_lines;
-use crate::shown::blocks_of_labels;
 use crate::streams::print;
 use commands::Question;
 use extract::extract;
@@ -23,16 +20,13 @@ use std::alloc::{AllocError, Global};
 use std::io::Write;
 use text::push_number;
 
-/// Writes the answer to a question about a library. `text` has the same statements, in order, but a
-/// `$a` of the library may be a `$p` there (`--assume`); it may be empty if the answer prints
-/// neither lines and columns nor descriptions.
+/// Writes the answer to a question about a library, but to none that needs no proofs.
 ///
 /// Errors: those of the question, before anything is written; `Output` if a write fails; `Memory`
 /// if an allocation fails, perhaps after some steps of a proof.
 pub fn write_answer<O: Write>(
     alloc: Global,
     library: &Library,
-    text: NamedText<'_>,
     question: &Question<'_>,
     output: &mut O,
 ) -> Result<(), Fault> {
@@ -59,32 +53,8 @@ pub fn write_answer<O: Write>(
                 extract(alloc, library, labels.as_slice())?.as_slice(),
             )
         }
-        Question::Show(labels) => {
-            print(
-                output,
-                blocks_of_labels(
-                    alloc,
-                    library.statements(),
-                    library.frames(),
-                    text,
-                    labels.as_slice(),
-                )?
-                .as_slice(),
-            )
-        }
-        Question::Find(query) => {
-            print(
-                output,
-                matching_lines(
-                    alloc,
-                    library.statements(),
-                    library.frames(),
-                    text.bytes,
-                    query,
-                )?
-                .as_slice(),
-            )
-        }
+        // A database answers these without its proofs (`searches`).
+        Question::Show(_) | Question::Find(_) => Ok(()),
     }
 }
 

@@ -88,7 +88,7 @@ fn answer_with_library<R: AllocGlobal + Threads + Sync, O: Write, F: Write>(
     }
     match apply_text(rt, library, bytes)? {
         Verdict::Refused(cause) => answer_refused(rt, request, text, cause, output, stderr),
-        _ => answer_accepted(rt.alloc(), library, text, &request.question, output, stderr),
+        _ => answer_accepted(rt.alloc(), library, &request.question, output, stderr),
     }
 }
 
@@ -106,18 +106,16 @@ pub fn apply_text<R: Threads + Sync>(
     library.apply_with(rt, Some(&entry), PoolSize::for_machine(rt), &OpenGate)
 }
 
-/// Prints the answer about a library, and returns the exit status. `text` has the same statements,
-/// in order, but a `$a` of the library may be a `$p` there (`--assume`). The reason for a refusal
-/// goes to `stderr`.
+/// Prints the answer about a library, and returns the exit status. The reason for a refusal goes to
+/// `stderr`.
 pub fn answer_accepted<O: Write, F: Write>(
     alloc: Global,
     library: &Library,
-    text: NamedText<'_>,
     question: &Question<'_>,
     output: &mut O,
     stderr: &mut F,
 ) -> Result<u8, Fault> {
-    match write_answer(alloc, library, text, question, output) {
+    match write_answer(alloc, library, question, output) {
         Ok(()) => {
             note_if_empty(library, question, stderr);
             Ok(0)

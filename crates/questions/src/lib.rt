@@ -39,5 +39,7 @@ pub use fault::Fault;
 pub use named_text::NamedText;
 pub use pages::write_pages;
 pub use refused_texts::fault_of;
+pub use searches::pattern_lines;
+pub use shown::library_block;
 pub use streams::{print, read_at_most};
 pub use works::print_work;

@@ -85,7 +85,7 @@ pub fn answer_unproved<R: AllocGlobal + Threads + Sync, O: Write, F: Write>(
         Question::Proof(proof) if matches!(proof.form, ProofForm::SoFar) => {
             print_so_far(rt.alloc(), text, database, proof.label, output, stderr)?
         }
-        _ => answer_assuming(rt, request, text, database, output, stderr)?,
+        _ => answer_assuming(rt, request, database, output, stderr)?,
     };
     Ok(Some(status))
 }
