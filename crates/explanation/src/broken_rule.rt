@@ -75,8 +75,8 @@ fn explain_in_statements(
     }
 }
 
-/// Writes that a block is never closed, given the statements of a text that are kept, and those that
-/// are left out.
+/// Writes that a block is never closed, given the statements of a text that are kept, and those
+/// that are left out.
 pub(crate) fn explain_open_block(
     lines: &mut Lines<'_>,
     tokens: &TextTokens<'_>,

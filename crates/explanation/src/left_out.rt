@@ -53,8 +53,8 @@ fn push_reason(
     explain_statement(alloc, lines, &context, &left.statement);
 }
 
-/// Returns the lines that explain which block is open at the end of the statements that are kept of a
-/// text, at most 65,536 bytes. The tokens are those of its statements.
+/// Returns the lines that explain which block is open at the end of the statements that are kept of
+/// a text, at most 65,536 bytes. The tokens are those of its statements.
 ///
 /// Errors: an allocation fails. Cost: a pass over the text.
 pub fn explain_open_end(

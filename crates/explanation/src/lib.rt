@@ -4,8 +4,8 @@
 //! after a refusal and parses the text again. `explain_after` does the same for a text that follows
 //! the statements of a library. `explain_unproved` explains one `$p` of statements that the caller
 //! has parsed, and `explain_left_out`, `explain_misread` and so on another fault of a text of which
-//! the rest is judged. The explanation relies on the clauses of `places`, `rule_violation` and `explain`;
-//! its messages have no contract.
+//! the rest is judged. The explanation relies on the clauses of `places`, `rule_violation` and
+//! `explain`; its messages have no contract.
 //!
 //! Reading order: `explained_refusal`, `written_lines`, `text_fault`, `shape_fault`, `broken_rule`
 //! with `statement_symbols` and `left_out`; `limited_library`; `proof` with `text_tokens`,

@@ -1,7 +1,7 @@
 //! `check --all` of a text with other faults than wrong proofs: what is left of it is judged.
 //!
-//! Each byte that is not allowed counts as a space. What is no statement is left out, up to the next
-//! `$.`, and then each statement that breaks a rule after those that are kept.
+//! Each byte that is not allowed counts as a space. What is no statement is left out, up to the
+//! next `$.`, and then each statement that breaks a rule after those that are kept.
 ghost use Rattle.std.specs.Prelude.{◌≡◌, ◌++◌, count_by, flat_map, length, IfOk};
 ghost use Rattle.std.specs.List.{All};
 ghost use Rattle.mm_lex.specs.Tokens.{AreTokens};
@@ -240,8 +240,8 @@ fn push_left_out_before(
     Ok(left_out.len())
 }
 
-/// Returns a line for each fault, and the line that counts the `$p`: all of them, and those that are
-/// not proved.
+/// Returns a line for each fault, and the line that counts the `$p`: all of them, and those that
+/// are not proved.
 fn fault_lines(
     alloc: Global,
     faults: &[FaultLine],

@@ -73,7 +73,7 @@ fn all_proved_line(alloc: Global, statements: &[Stmt]) -> Result<Vec<u8>, AllocE
     Ok(line)
 }
 
-/// Appends the line `proved N of M`: there are `all` `$p`, and all but `unproved` of them are proved.
+/// Appends the line `proved N of M`: there are `all` `$p`, of which `unproved` are not proved.
 pub fn push_proved(line: &mut Vec<u8>, all: usize, unproved: usize) -> Result<(), AllocError>
     ensures { OnOk result (line.new.items ≡ line.old.items ++ counted_line all unproved) }
 {

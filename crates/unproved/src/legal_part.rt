@@ -33,8 +33,8 @@ pub struct LegalPart {
     pub left_out: Vec<LeftOut>,
 }
 
-/// Leaves out each statement that breaks a rule after the earlier ones that are kept, and closes the
-/// blocks that are open at the end.
+/// Leaves out each statement that breaks a rule after the earlier ones that are kept, and closes
+/// the blocks that are open at the end.
 ///
 /// Errors: an allocation fails. Cost: the size of the statements.
 /// Source: Metamath, chapter 4; that the others are kept is this project's choice.

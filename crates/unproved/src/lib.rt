@@ -1,8 +1,8 @@
 //! Finds each `$p` that is not proved, and makes a library in which these are `$a`.
 //!
 //! The main contract: `LegalDatabase::unproved` returns the positions of exactly the `$p`
-//! that are not proved, in order, with any number of workers. `keep_legal` leaves out the statements
-//! that break a rule.
+//! that are not proved, in order, with any number of workers. `keep_legal` leaves out the
+//! statements that break a rule.
 //!
 //! Reading order: `legal_database` (statements with their frames), `statement_range` (consecutive
 //! statements as jobs of a pool), `search` (all `$p` that are not proved), `legal_part`, `laws`.
