@@ -1,5 +1,3 @@
-use Rattle.std.proofs.Common.{◌∙◌, ap}
-use Rattle.unproved.specs.LegalPart.{closed, open_after}
 use Rattle.unproved.proofs.LegalPartLemmas.{part-legal, part-shaped}
 use Rattle.unproved.proofs.legal_part.keep_legal.Goals as goal
 
@@ -10,13 +8,3 @@ legal_database-requires-clause-shaped c =
 pub legal_database-requires-clause-legal : goal.legal_database-requires-clause-legal
 legal_database-requires-clause-legal c =
     part-legal c.args.statements.items c.in_ok-sifter.sifter.kept.items c.close_blocks.new.statements.items c.in_ok-sifter.ensures.kept c.in_ok-open_blocks.ensures.closed
-
-pub returns : goal.returns
-returns c =
-    let w = c.in_ok-sifter.ensures in
-    let closes = c.in_ok-open_blocks.ensures in
-    record {
-      kept = c.in_ok-database.ensures ∙ (closes.closed ∙ ap closed w.kept);
-      open_blocks = closes.count ∙ ap (open_after 0) w.kept;
-      left_out = w.left_out;
-    }
