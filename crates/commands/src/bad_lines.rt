@@ -74,7 +74,7 @@ fn line_problem(form: &'static str, line: &[u8], following: &[u8]) -> Problem {
     let mut words = Words::new(line);
     let _verb = words.take();
     for name in form.split(' ').skip(1) {
-        if name == "TEXT" {
+        if name == "TEXT" || name == "PATTERN" {
             return Problem("", "");
         }
         if name == "NAME" {

@@ -31,7 +31,8 @@ pub enum CommonLine {
     Status(NodeEntryId),
     /// `why K AUTHOR SERIAL`: the reason why the node's library refused the entry.
     Why(NodeEntryId),
-    /// `trace K LABEL`, `tree`, `usage`, `show` and `proof`: a question about a label.
+    /// `trace K LABEL`, `tree`, `usage`, `show` and `proof`: a question about a label; `find K
+    /// PATTERN`.
     Ask(NodeQuestion),
     /// `compare J K`: which of two nodes has the library with more statements.
     Compare(NodePair),

@@ -1,16 +1,14 @@
-//! Questions about a label in the library of a node.
+//! Questions about a label, or a pattern, in the library of a node.
 ghost use Rattle.std.specs.Prelude.{◌≡◌, option_map};
 ghost use Rattle.commands.specs.Scripts.{Parses};
 ghost use Rattle.commands.specs.NodeQuestions.{asked_of, label_question_kind_of, node_question_of};
-ghost use Rattle.commands.specs.NodeQuestions.{usage_of};
+ghost use Rattle.commands.specs.NodeQuestions.{pattern_of, usage_of};
 
 use crate::line_words::Words;
-use crate::request::{ProofForm, ProofQuestion, Question};
 use crate::script::LineFault;
 use crate::text_form::only_word;
 use bytes::Bytes;
-use std::alloc::{AllocError, Global};
-use std::str;
+use std::alloc::Global;
 
 /// The kind of a question about a label. The label itself stands in `NodeQuestion`.
 #[derive(Clone, Copy, Debug, PartialEq, Eq)]
@@ -27,45 +25,8 @@ pub enum LabelQuestionKind {
     Show,
     /// `proof`: the steps of the proof of the `$p`.
     Proof,
-}
-
-impl LabelQuestionKind {
-    /// Returns the verb of the question.
-    pub fn verb(self) -> &'static [u8] {
-        match self {
-            LabelQuestionKind::Trace => b"trace",
-            LabelQuestionKind::Tree => b"tree",
-            LabelQuestionKind::Usage | LabelQuestionKind::UsageAll => b"usage",
-            LabelQuestionKind::Show => b"show",
-            LabelQuestionKind::Proof => b"proof",
-        }
-    }
-
-    /// Returns the same question about the label, as the command for a database asks it. For `show`
-    /// a label that is not UTF-8 is replaced by the empty label; no statement has either.
-    ///
-    /// Errors: an allocation fails.
-    pub fn database_question(
-        self,
-        alloc: Global,
-        label: &[u8],
-    ) -> Result<Question<'_>, AllocError> {
-        Ok(match self {
-            LabelQuestionKind::Trace => Question::Trace(label),
-            LabelQuestionKind::Tree => Question::Tree(label),
-            LabelQuestionKind::Usage => Question::Usage { label, all: false },
-            LabelQuestionKind::UsageAll => Question::Usage { label, all: true },
-            LabelQuestionKind::Show => {
-                let text = str::from_utf8(label).unwrap_or("");
-                Question::Show(Vec::from_slice(alloc, &[text])?)
-            }
-            LabelQuestionKind::Proof => Question::Proof(ProofQuestion {
-                label,
-                essential_only: false,
-                form: ProofForm::Steps,
-            }),
-        })
-    }
+    /// `find`: the assertions that have a pattern, which stands in place of the label.
+    Find,
 }
 
 /// A question about a label in the library of a node.
@@ -73,6 +34,7 @@ impl LabelQuestionKind {
 pub struct NodeQuestion {
     pub node: u8,
     pub kind: LabelQuestionKind,
+    /// The label; of `Find` the pattern.
     pub label: Bytes,
 }
 
@@ -90,13 +52,15 @@ pub(crate) fn label_question_kind(verb: &[u8]) -> Option<LabelQuestionKind>
         Some(LabelQuestionKind::Show)
     } else if verb == b"proof".as_slice() {
         Some(LabelQuestionKind::Proof)
+    } else if verb == b"find".as_slice() {
+        Some(LabelQuestionKind::Find)
     } else {
         None
     }
 }
 
 /// Parses `K LABEL`, the words after the verb, as a question of this kind. After the label of
-/// `usage` the word `all` may follow.
+/// `usage` the word `all` may follow; for `find` all words after the node are the pattern.
 pub(crate) fn parse_question(
     alloc: Global,
     kind: LabelQuestionKind,
@@ -118,6 +82,7 @@ fn asked<'a>(kind: LabelQuestionKind, words: Words<'a>) -> Option<(LabelQuestion
 {
     match kind {
         LabelQuestionKind::Usage => usage_asked(words),
+        LabelQuestionKind::Find => pattern_asked(words),
         _ => Some((kind, only_word(words)?)),
     }
 }
@@ -140,4 +105,16 @@ fn usage_asked<'a>(mut words: Words<'a>) -> Option<(LabelQuestionKind, &'a [u8])
             }
         }
     }
+}
+
+/// Returns the kind and the pattern of a question that `find` asks by these words: the rest of the
+/// line, unless it is empty.
+fn pattern_asked<'a>(words: Words<'a>) -> Option<(LabelQuestionKind, &'a [u8])>
+    ensures { option_map (λ a. (a.0, a.1.now)) result ≡ pattern_of words.entry }
+{
+    let pattern = words.text();
+    if pattern.is_empty() {
+        return None;
+    }
+    Some((LabelQuestionKind::Find, pattern))
 }

@@ -25,6 +25,7 @@ Lines, K a node from 0:
   usage K LABEL [all]                print who cites a statement
   proof K LABEL                      print the steps of a proof
   show K LABEL                       print a statement
+  find K PATTERN                     print the assertions that have it
   compare J K                        print which library has more statements
   events                             print the history, as lines of play";
 
@@ -54,6 +55,7 @@ Lines, K a node from 0:
   usage K LABEL [all]                print who cites a statement
   proof K LABEL                      print the steps of a proof
   show K LABEL                       print a statement
+  find K PATTERN                     print the assertions that have it
   compare J K                        print which library has more statements
   events                             print the history, as lines of play
   health                             print the state of each node
@@ -71,7 +73,7 @@ pub(crate) struct ScriptLines {
 pub(crate) const PLAY_LINES: ScriptLines = ScriptLines {
     help: PLAY_LINES_HELP,
     verbs: "offer, offer-lines, offer-bytes, charter, begin, deliver, restart, apply, show, status, \
-        why, list, export, log, state, trace, tree, usage, proof, compare or events",
+        why, list, export, log, state, trace, tree, usage, proof, find, compare or events",
 };
 
 /// The lines of a session, of which a script has all but `help`.
@@ -79,7 +81,7 @@ pub(crate) const SERVE_LINES: ScriptLines = ScriptLines {
     help: SERVE_LINES_HELP,
     verbs: "add, add-lines, add-bytes, submit, submit-lines, submit-bytes, charter, add-charter, \
         begin, restart, settle, status, why, list, export, log, state, trace, tree, usage, proof, \
-        show, compare, events, health, store or help",
+        show, find, compare, events, health, store or help",
 };
 
 impl ScriptLines {

@@ -1,4 +1,5 @@
 //! Explains which rule a statement breaks.
+use crate::left_out::push_left_out;
 use crate::statement_symbols::{first_symbol_token, label_of, symbol_at};
 use crate::text_tokens::TextTokens;
 use crate::written_lines::Lines;
@@ -6,15 +7,19 @@ use mm_read::{ReadFault, Stmt, read};
 use rule_violation::{RuleViolation, find_unclosed_block, violation_of};
 use scope::Rule;
 use std::alloc::Global;
+use unproved::{LeftOut, text_position};
 
 /// A statement of a text, and the rule that it breaks.
 #[derive(Clone, Copy)]
-struct RuleContext<'a> {
-    tokens: &'a TextTokens<'a>,
-    statements: &'a [Stmt],
-    /// The statement, counted from 1.
-    statement: usize,
-    rule: Rule,
+pub(crate) struct RuleContext<'a> {
+    pub(crate) tokens: &'a TextTokens<'a>,
+    /// The earlier statements that are kept.
+    pub(crate) earlier: &'a [Stmt],
+    /// Those of the text that are left out.
+    pub(crate) left_out: &'a [LeftOut],
+    /// The position of the statement in the text, counted from 1.
+    pub(crate) statement: usize,
+    pub(crate) rule: Rule,
 }
 
 /// Writes how the statement breaks the rule: the symbol or label that breaks it, if one does, and
@@ -40,7 +45,8 @@ pub(crate) fn explain_rule(
     }
 }
 
-/// Writes the rule that the statement breaks, given the statements of the text.
+/// Writes the rule that the statement breaks, given the statements of the text: a statement of the
+/// text, or one after the last if a block is open at the end.
 fn explain_in_statements(
     alloc: Global,
     lines: &mut Lines<'_>,
@@ -49,31 +55,38 @@ fn explain_in_statements(
     statement: usize,
     rule: Rule,
 ) {
-    if let Some(tokens) = lines.ok_or_fail(TextTokens::new(alloc, text)) {
-        let context = RuleContext {
-            tokens: &tokens,
-            statements,
-            statement,
-            rule,
-        };
-        explain_rule_in(alloc, lines, &context);
+    let Some(tokens) = lines.ok_or_fail(TextTokens::new(alloc, text)) else {
+        return;
+    };
+    let index = statement.saturating_sub(1).min(statements.len());
+    let (earlier, rest) = statements.split_at(index);
+    match rest.get(0) {
+        Some(stmt) => {
+            let context = RuleContext {
+                tokens: &tokens,
+                earlier,
+                left_out: &[],
+                statement,
+                rule,
+            };
+            explain_statement(alloc, lines, &context, stmt);
+        }
+        None => explain_open_block(lines, &tokens, earlier, &[]),
     }
 }
 
-/// Writes which rule is broken: by a block that is open at the end, or by the statement.
-fn explain_rule_in(alloc: Global, lines: &mut Lines<'_>, context: &RuleContext<'_>) {
-    if context.statement > context.statements.len() {
-        explain_open_block(lines, context);
-    } else {
-        explain_statement(alloc, lines, context);
-    }
-}
-
-/// Writes that a block is never closed.
-fn explain_open_block(lines: &mut Lines<'_>, context: &RuleContext<'_>) {
-    if let Some(open) = find_unclosed_block(context.statements) {
-        push_token_place_and_colon(lines, context, open, 1);
-        lines.push(b"this block is never closed\n");
+/// Writes that a block is never closed, given the statements of a text that are kept, and those
+/// that are left out.
+pub(crate) fn explain_open_block(
+    lines: &mut Lines<'_>,
+    tokens: &TextTokens<'_>,
+    kept: &[Stmt],
+    left_out: &[LeftOut],
+) {
+    if let Some(open) = find_unclosed_block(kept) {
+        let statement = text_position(left_out, open);
+        lines.push_place(tokens.text(), tokens.start_of(statement, 1));
+        lines.push(b": this block is never closed\n");
     }
 }
 
@@ -100,16 +113,13 @@ fn push_token_place(
 }
 
 /// Writes which rule the statement breaks, and by which of its symbols or its label.
-fn explain_statement(alloc: Global, lines: &mut Lines<'_>, context: &RuleContext<'_>) {
-    let Some(index) = context.statement.checked_sub(1) else {
-        return;
-    };
-    if index >= context.statements.len() {
-        return;
-    }
-    let (earlier, rest) = context.statements.split_at(index);
-    let stmt = &rest[0];
-    let violation = violation_of(alloc, earlier, stmt, context.rule);
+pub(crate) fn explain_statement(
+    alloc: Global,
+    lines: &mut Lines<'_>,
+    context: &RuleContext<'_>,
+    stmt: &Stmt,
+) {
+    let violation = violation_of(alloc, context.earlier, stmt, context.rule);
     if let Some(Some(violation)) = lines.ok_or_fail(violation) {
         explain_violation(lines, context, stmt, violation);
     }
@@ -180,6 +190,12 @@ fn explain_symbol(lines: &mut Lines<'_>, context: &RuleContext<'_>, stmt: &Stmt,
         Rule::G9 => lines.push(b" is a variable that has no active $f\n"),
         _ => lines.push(b" is no active variable\n"),
     }
+    push_left_out(
+        lines,
+        context.tokens,
+        context.left_out,
+        symbol_at(stmt, symbol),
+    );
 }
 
 /// Writes that a symbol occurs twice in the statement, and where it occurs first.
@@ -223,14 +239,19 @@ fn explain_label_conflict(
 
 /// Writes how the other statement uses the name, and where.
 fn push_other_use(lines: &mut Lines<'_>, context: &RuleContext<'_>, name: &[u8], other: usize) {
-    let Some(stmt) = context.statements.get(other.saturating_sub(1)) else {
+    let Some(stmt) = context.earlier.get(other.saturating_sub(1)) else {
         lines.push(b"\n");
         return;
     };
     let (message, token) = use_of(stmt, name);
     lines.push(message);
     lines.push(b"\n  at ");
-    push_token_place(lines, context, other, token);
+    push_token_place(
+        lines,
+        context,
+        text_position(context.left_out, other),
+        token,
+    );
     lines.push(b"\n");
 }
 

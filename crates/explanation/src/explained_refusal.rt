@@ -5,13 +5,13 @@ ghost use Rattle.std.specs.Prelude.{◌≤◌, length, IfOk};
 use crate::broken_rule::explain_rule;
 use crate::limited_library::{explain_left_hypotheses, explain_too_costly};
 use crate::proof::{explain_in_database, explain_proof};
-use crate::shape_fault::explain_shape;
-use crate::text_fault::explain_text;
+use crate::shape_fault::{explain_shape, explain_token_at};
+use crate::text_fault::{explain_byte, explain_text};
 use crate::text_tokens::TextTokens;
 use crate::written_lines::{Lines, MAX_BYTES};
 use scope::Rule;
 use std::alloc::{AllocError, Global};
-use unproved::LegalDatabase;
+use unproved::{LeftOut, LegalDatabase};
 
 /// Why a database is refused.
 #[derive(Clone, Copy, Debug, Drop, PartialEq, Eq)]
@@ -77,7 +77,7 @@ pub fn explain_after(
 
 /// Returns the lines that explain why the proof of the `$p` at a position is wrong or unfinished,
 /// at most 65,536 bytes; none if it is correct, or if there is no `$p` at the position. `database`
-/// has the statements of the text whose tokens are given.
+/// has the statements of the text whose tokens are given, without those that are left out.
 ///
 /// Errors: those of `explain::explain`. Cost: that of `explain::explain`, and a pass over the text.
 pub fn explain_unproved(
@@ -85,12 +85,46 @@ pub fn explain_unproved(
     name: Option<&str>,
     tokens: &TextTokens<'_>,
     database: &LegalDatabase,
+    left_out: &[LeftOut],
     statement: usize,
 ) -> Result<Vec<u8>, AllocError>
     ensures short { IfOk result (λ lines. length lines.items ≤ MAX_BYTES) }
 {
     let mut lines = Lines::new(alloc, name, 0);
-    explain_in_database(alloc, &mut lines, tokens, database, statement);
+    explain_in_database(alloc, &mut lines, tokens, database, left_out, statement);
+    lines.into_bytes()
+}
+
+/// Returns the lines that explain why the token at an index, or the end of the text, may not stand
+/// there, at most 65,536 bytes; none if there are fewer tokens.
+///
+/// Errors: an allocation fails. Cost: a pass over the text.
+pub fn explain_misread(
+    alloc: Global,
+    name: Option<&str>,
+    tokens: &TextTokens<'_>,
+    index: usize,
+) -> Result<Vec<u8>, AllocError>
+    ensures short { IfOk result (λ lines. length lines.items ≤ MAX_BYTES) }
+{
+    let mut lines = Lines::new(alloc, name, 0);
+    explain_token_at(&mut lines, tokens.text(), tokens.spans(), index);
+    lines.into_bytes()
+}
+
+/// Returns the lines that explain that the byte at an offset is not allowed, at most 65,536 bytes.
+///
+/// Errors: an allocation fails. Cost: a pass over the text.
+pub fn explain_refused_byte(
+    alloc: Global,
+    name: Option<&str>,
+    text: &[u8],
+    offset: usize,
+) -> Result<Vec<u8>, AllocError>
+    ensures short { IfOk result (λ lines. length lines.items ≤ MAX_BYTES) }
+{
+    let mut lines = Lines::new(alloc, name, 0);
+    explain_byte(&mut lines, text, offset);
     lines.into_bytes()
 }
 

@@ -1,15 +1,14 @@
 //! Explains the refusals of a library with a limit on work: a text counts too much, or leaves a
 //! `$e` or `$d` outside all blocks.
-ghost use Rattle.std.specs.Prelude.{◌≡◌, IfSome, OnOk};
+ghost use Rattle.std.specs.Prelude.{◌≡◌, IfSome};
 ghost use Rattle.frame.specs.FrameOf.{HasAssertion};
-ghost use Rattle.mm_read.specs.Statements.{AreShaped};
 ghost use Rattle.scope.specs.Active.{is_assertion};
 
 use crate::text_tokens::TextTokens;
 use crate::written_lines::Lines;
 use mm_read::{ReadFault, Stmt, read};
 use std::alloc::{AllocError, Global};
-use unproved::LegalDatabase;
+use unproved::{LegalDatabase, close_blocks};
 
 /// The work of a name: of a symbol that a `$c` or `$v` lists, or of a label.
 const NAME_WORK: u64 = 64;
@@ -80,30 +79,6 @@ fn closed_database(alloc: Global, front: &[u8]) -> Result<Option<LegalDatabase>,
         Err(ReadFault::Memory) => Err(AllocError),
         Err(_) => Ok(None),
     }
-}
-
-/// Appends a `$}` for each block that is open at the end.
-fn close_blocks(statements: &mut Vec<Stmt>) -> Result<(), AllocError>
-    requires { AreShaped statements.old.items }
-    ensures { OnOk result (AreShaped statements.new.items) }
-{
-    for _block in 0..count_open_blocks(statements) {
-        statements.push(Stmt::Close)?;
-    }
-    Ok(())
-}
-
-/// Returns how many blocks are open at the end.
-fn count_open_blocks(statements: &[Stmt]) -> usize {
-    let mut depth = 0usize;
-    for statement in statements {
-        match statement {
-            Stmt::Open => depth = depth.saturating_add(1),
-            Stmt::Close => depth = depth.saturating_sub(1),
-            _ => {}
-        }
-    }
-    depth
 }
 
 /// Returns the work of all statements but the first ones, without proofs.

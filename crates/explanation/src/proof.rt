@@ -11,6 +11,7 @@ ghost use Rattle.verify.specs.Right.{IsProvable};
 use crate::code_break::explain_break;
 use crate::expressions::{expr_at, push_excerpt, push_expression};
 use crate::item_spots::{spot_of, step_of};
+use crate::left_out::push_left_out;
 use crate::missing_pairs::push_missing_pairs;
 use crate::stack::{push_stack, push_stack_before};
 use crate::statement_symbols::token_at;
@@ -23,7 +24,7 @@ use frame::Frames;
 use mm_read::{ReadFault, Stmt, read};
 use proof_code::Items;
 use std::alloc::Global;
-use unproved::LegalDatabase;
+use unproved::{LeftOut, LegalDatabase};
 
 /// Writes the rule of proof code that a proof breaks, or the first fault of its run.
 pub(crate) fn explain_proof(alloc: Global, lines: &mut Lines<'_>, text: &[u8], statement: usize) {
@@ -60,20 +61,21 @@ fn explain_in_text(
     statement: usize,
 ) {
     if let Some(tokens) = lines.ok_or_fail(TextTokens::new(alloc, text)) {
-        explain_in_database(alloc, lines, &tokens, database, statement);
+        explain_in_database(alloc, lines, &tokens, database, &[], statement);
     }
 }
 
 /// Writes why the proof of the `$p` at a position is wrong or unfinished, given the tokens of the
-/// text and its statements with their frames.
+/// text and its statements with their frames, of which these are left out.
 pub(crate) fn explain_in_database(
     alloc: Global,
     lines: &mut Lines<'_>,
     tokens: &TextTokens<'_>,
     database: &LegalDatabase,
+    left_out: &[LeftOut],
     statement: usize,
 ) {
-    if let Some(theorem) = Theorem::new(tokens, database.statements(), statement) {
+    if let Some(theorem) = Theorem::new(tokens, database.statements(), left_out, statement) {
         explain_theorem(alloc, lines, database.frames(), &theorem);
     }
 }
@@ -155,6 +157,10 @@ fn explain_step(
     theorem.push_spot(lines, spot_of(theorem.proof, item));
     push_step(lines, items, item);
     push_fault(lines, theorem, frames, fault);
+    if matches!(fault, ItemFault::UnknownLabel) {
+        let label = label_of_item(items, item);
+        push_left_out(lines, theorem.tokens, theorem.left_out, label);
+    }
 }
 
 /// Writes that the stack at the end does not have exactly one result.
@@ -180,6 +186,15 @@ fn explain_other_theorem(
     lines.push(b" says");
     push_expression(lines, frames, expr_at(frames, theorem.at));
     lines.push(b"\n");
+}
+
+/// Returns the label that an item cites, or an empty one if it cites none.
+fn label_of_item(items: &Items, item: usize) -> &[u8] {
+    let parts = items.parts();
+    match parts.numbers.get(item) {
+        Some(number) if *number > 0 => token_at(parts.labels, *number as usize - 1),
+        _ => b"",
+    }
 }
 
 /// Writes the step number of the item, and that it marks a result, recalls one, or cites a label,

@@ -28,7 +28,7 @@ fn explain_misplaced_token(alloc: Global, lines: &mut Lines<'_>, text: &[u8], to
 }
 
 /// Writes the explanation for the token at an index, if the index is at most the number of tokens.
-fn explain_token_at(lines: &mut Lines<'_>, text: &[u8], spans: &[Span], index: usize)
+pub(crate) fn explain_token_at(lines: &mut Lines<'_>, text: &[u8], spans: &[Span], index: usize)
     requires { All (IsWordAt text.now) spans.now }
 {
     if index > spans.len() {

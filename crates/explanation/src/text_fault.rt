@@ -17,7 +17,7 @@ pub(crate) fn explain_text(alloc: Global, lines: &mut Lines<'_>, text: &[u8]) {
 }
 
 /// Writes which byte is not allowed, and where.
-fn explain_byte(lines: &mut Lines<'_>, text: &[u8], offset: usize) {
+pub(crate) fn explain_byte(lines: &mut Lines<'_>, text: &[u8], offset: usize) {
     let Some(byte) = text.get(offset) else {
         return;
     };

@@ -1,6 +1,7 @@
 //! A text with the spans of its tokens.
 ghost use Rattle.std.specs.Prelude.{◌≡◌, IfOk};
-ghost use Rattle.mm_lex.specs.Tokens.{AreTokens};
+ghost use Rattle.std.specs.List.{All};
+ghost use Rattle.mm_lex.specs.Tokens.{AreTokens, IsWordAt};
 ghost use Rattle.places.specs.TokenSpans.{counted_token};
 ghost use Rattle.explanation.specs.TokenPlaces.{start_or_end};
 
@@ -41,11 +42,28 @@ impl<'a> TextTokens<'a> {
         Ok(TextTokens { text, spans })
     }
 
+    /// Returns a text with the spans of some of its tokens.
+    pub fn of_spans(text: &'a [u8], spans: Vec<Span>) -> TextTokens<'a>
+        requires { All (IsWordAt text.now) spans.items }
+        ensures text { result.text ≡ text.now }
+        ensures spans { result.spans ≡ spans.items }
+    {
+        TextTokens { text, spans }
+    }
+
     /// Returns the text.
-    pub(crate) fn text(&self) -> &'a [u8]
+    pub fn text(&self) -> &'a [u8]
         ensures { result.now ≡ self.now.text }
     {
         self.text
+    }
+
+    /// Returns the spans of its tokens.
+    pub fn spans(&self) -> &[Span]
+        ensures spans { result.now ≡ self.now.spans }
+        ensures words { All (IsWordAt self.now.text) result.now }
+    {
+        self.spans.as_slice()
     }
 
     /// Returns the offset at which a token of a statement begins, or the end of the text if there

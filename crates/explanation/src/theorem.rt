@@ -8,13 +8,16 @@ use crate::text_tokens::TextTokens;
 use crate::written_lines::Lines;
 use mm_lex::Words;
 use mm_read::Stmt;
+use unproved::{LeftOut, text_position};
 
 /// A `$p` of a text that parses as these statements.
 #[derive(Clone, Copy)]
 pub(crate) struct Theorem<'a> {
     pub(crate) tokens: &'a TextTokens<'a>,
     pub(crate) statements: &'a [Stmt],
-    /// Its position, counted from 1.
+    /// The statements of the text that are left out of these.
+    pub(crate) left_out: &'a [LeftOut],
+    /// Its position among the statements, counted from 1.
     pub(crate) at: usize,
     pub(crate) label: &'a [u8],
     pub(crate) expr: &'a Words,
@@ -26,6 +29,7 @@ impl<'a> Theorem<'a> {
     pub(crate) fn new(
         tokens: &'a TextTokens<'a>,
         statements: &'a [Stmt],
+        left_out: &'a [LeftOut],
         at: usize,
     ) -> Option<Theorem<'a>>
         ensures position { IfSome result (λ theorem. theorem.at ≡ at) }
@@ -39,6 +43,7 @@ impl<'a> Theorem<'a> {
         Some(Theorem {
             tokens,
             statements,
+            left_out,
             at,
             label: label.as_bytes(),
             expr,
@@ -50,7 +55,8 @@ impl<'a> Theorem<'a> {
     /// after the last token.
     pub(crate) fn push_spot(&self, lines: &mut Lines<'_>, spot: Spot) {
         let token = self.expr.len().saturating_add(4).saturating_add(spot.token);
-        let start = self.tokens.start_of(self.at, token);
+        let position = text_position(self.left_out, self.at);
+        let start = self.tokens.start_of(position, token);
         lines.push_place(self.tokens.text(), start.saturating_add(spot.byte));
         lines.push(b": the proof of ");
         lines.push(self.label);

@@ -104,7 +104,7 @@ past_statements (suc n) (s ∷ S) h within =
 -- ---- the search for the span
 
 -- the words of the spans from an index on are the word there and then those after it
-words_drop : (text : List ℕ) (spans : List Span) (i : ℕ) (d : Span) → i < length spans → words text (drop i spans) ≡ word text (get_or spans i d) ∷ words text (drop (suc i) spans)
+pub words_drop : (text : List ℕ) (spans : List Span) (i : ℕ) (d : Span) → i < length spans → words text (drop i spans) ≡ word text (get_or spans i d) ∷ words text (drop (suc i) spans)
 words_drop text spans i d h = ap (words text) (drop-cons spans i d h)
 
 -- one more token

@@ -3,3 +3,5 @@ pub mod TokenSpans
 pub mod CommentFaults
 pub mod Descriptions
 pub mod Walk
+pub mod Misread
+pub mod RefusedBytes

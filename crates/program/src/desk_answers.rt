@@ -21,9 +21,10 @@ use crate::served_nodes::NodesDesk;
 use crate::stored::{FileSizes, StoredNodes};
 use crate::why::{Decision, decision_of, push_why};
 use cluster::NodeCell;
-use commands::{NodeEntryId, NodePair, NodeQuestion};
+use commands::{LabelQuestionKind, NodeEntryId, NodePair, NodeQuestion};
 use event_lines::push_events;
 use keep_folders::{push_damaged_line, push_kept_line};
+use library::Entry;
 use net::StepFault;
 use printed::{push_carried_log, push_export, push_health, push_state};
 use questions::Fault;
@@ -155,7 +156,7 @@ impl<R: Wait, K: Keep<Carried>, B: FileSizes, E: Write> AnsweringDesk<'_, R, K, 
     {
         let alloc = self.alloc;
         let lines = self.desk.ask(self.rt, question.node, |cell| {
-            label_answer(alloc, cell.library(), question)
+            cell_answer(alloc, cell, question)
         })??;
         Ok(text.extend_from_slice(lines.as_slice())?)
     }
@@ -211,12 +212,30 @@ fn state_word(is_down: bool) -> &'static [u8]
     if is_down { b"down" } else { b"good" }
 }
 
+/// Returns the answer to a question about a label of a cell's library.
+fn cell_answer(alloc: Global, cell: &NodeCell, question: &NodeQuestion) -> Result<Vec<u8>, Fault>
+    ensures { IfOk result (λ text. IsLabelAnswer cell.now.node_library.library.statements
+        question.now.kind question.now.label text.items) }
+{
+    let entries = match question.kind {
+        LabelQuestionKind::Show => applied_entries(alloc, cell)?,
+        _ => Vec::new(alloc),
+    };
+    label_answer(alloc, cell.library(), entries.as_slice(), question)
+}
+
 /// Returns what a cell decided on an entry.
 fn decision_at(
     alloc: Global,
     cell: &NodeCell,
     entry_id: NodeEntryId,
 ) -> Result<Decision, AllocError> {
+    let entries = applied_entries(alloc, cell)?;
+    decision_of(alloc, cell.library(), entries.as_slice(), entry_id)
+}
+
+/// Returns the entries that a cell applied, in order.
+fn applied_entries(alloc: Global, cell: &NodeCell) -> Result<Vec<Option<Entry>>, AllocError> {
     let mut entries = Vec::new(alloc);
     for entry in cell.entries().iter().take(cell.applied() as usize) {
         match entry {
@@ -224,7 +243,7 @@ fn decision_at(
             None => entries.push(None)?,
         }
     }
-    decision_of(alloc, cell.library(), entries.as_slice(), entry_id)
+    Ok(entries)
 }
 
 /// Returns the statements of the library of a cell.

@@ -5,12 +5,14 @@
 //! `HostRuntime`. The commands that ask about a database are those of the crate `questions`.
 //!
 //! Reading order: `command_line` (`run`, which does what a command line asks for); `scripts` (the
-//! lines of a script, answered one by one), `node_answers` (about the library of a node), `why`
-//! (why a node refused an entry), `play`, `play_picture` (the picture of a run); `served_weather`,
+//! lines of a script, answered one by one), `added_texts` (the texts that a library added, and the
+//! descriptions in them), `node_answers` (about the library of a node), `why` (why a node refused
+//! an entry), `play`, `play_picture` (the picture of a run); `served_weather`,
 //! `served_nodes`, `desk_answers`, `session` (the lines of a script of `serve`, or of
 //! `serve --live`) and `serve`.
 #![tactic(auto)]
 
+mod added_texts;
 mod command_line;
 mod desk_answers;
 mod memory_keeps;

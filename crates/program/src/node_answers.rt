@@ -1,25 +1,29 @@
 //! Answers about the library of a node, which `play` and `serve` share.
 ghost use Rattle.std.specs.Prelude.{◌≡◌, ◌↔◌, ◌<◌, length, IfOk};
 ghost use Rattle.cluster.specs.declared.compare.Ahead.TheVariants.{First, Same, Second};
+ghost use Rattle.commands.specs.declared.node_question.LabelQuestionKind.TheVariants.{Find, Show};
 ghost use Rattle.commands.specs.declared.node_question.LabelQuestionKind.TheVariants.{Trace, Tree};
 ghost use Rattle.printed.specs.Counted.{counted_lines_text};
 ghost use Rattle.program.specs.Answers.{IsLabelAnswer, IsUsageAnswer, labels_text};
 
+use crate::added_texts::description_of;
 use cluster::Ahead;
-use commands::{LabelQuestionKind, NodeQuestion};
-use library::Library;
+use commands::{LabelQuestionKind, NodeQuestion, ProofForm, ProofQuestion, Question};
+use library::{Entry, Library};
 use mm_lex::Word;
 use printed::{push_counted_lines, push_labels};
-use questions::{Fault, NamedText, derivation_lines, write_answer};
+use questions::{Fault, derivation_lines, library_block, pattern_lines, write_answer};
 use std::alloc::{AllocError, Global};
 
-/// Returns the answer to a question about a label: its word, the count of its lines, and the lines
-/// of the database command.
+/// Returns the answer to a question about a label, or a pattern: its word, the count of its lines,
+/// and the lines of the database command on the export. `entries` are those that the library
+/// applied, in order, if the question is `Show`, which has the description of the statement too.
 ///
 /// Errors: those of the question; `Memory` if an allocation fails.
 pub fn label_answer(
     alloc: Global,
     library: &Library,
+    entries: &[Option<Entry>],
     question: &NodeQuestion,
 ) -> Result<Vec<u8>, Fault>
     ensures { IfOk result (λ text. IsLabelAnswer
@@ -31,9 +35,9 @@ pub fn label_answer(
         LabelQuestionKind::Usage => usage_answer(alloc, library, label, false),
         LabelQuestionKind::UsageAll => usage_answer(alloc, library, label, true),
         LabelQuestionKind::Tree => tree_answer(alloc, library, label),
-        LabelQuestionKind::Show | LabelQuestionKind::Proof => written_answer(
-            alloc, library, question,
-        ),
+        LabelQuestionKind::Show => shown_answer(alloc, library, entries, label),
+        LabelQuestionKind::Find => found_answer(alloc, library, label),
+        LabelQuestionKind::Proof => proof_answer(alloc, library, label),
     }
 }
 
@@ -82,40 +86,51 @@ fn counted_lines(alloc: Global, word: &[u8], lines: &[u8]) -> Result<Vec<u8>, Al
     Ok(text)
 }
 
-/// Returns the answer to `show` or `proof`: the lines of the database command, after their count.
-fn written_answer(
+/// Returns the answer to `show`: the block of the statement, with its description.
+fn shown_answer(
     alloc: Global,
     library: &Library,
-    question: &NodeQuestion,
-) -> Result<Vec<u8>, Fault> {
-    let database_question = question
-        .kind
-        .database_question(alloc, question.label.as_slice())?;
-    let text = text_of(alloc, library, question.kind)?;
-    let text = NamedText {
-        name: None,
-        bytes: text.as_slice(),
-    };
-    let mut lines = Vec::new(alloc);
-    match write_answer(alloc, library, text, &database_question, &mut lines) {
-        // A write to a list of bytes fails only if an allocation fails.
-        Err(Fault::Output) => return Err(Fault::Memory(AllocError)),
-        Err(fault) => return Err(fault),
-        Ok(()) => {}
-    }
-    Ok(counted_lines(alloc, question.kind.verb(), lines.as_slice())?)
+    entries: &[Option<Entry>],
+    label: &[u8],
+) -> Result<Vec<u8>, Fault>
+    ensures { IfOk result (λ text. IsLabelAnswer
+        library.now.replica.statements Show label.now text.items) }
+{
+    let description = description_of(alloc, library, entries, label)?;
+    let lines = library_block(alloc, library, label, bytes_of(&description))?;
+    Ok(counted_lines(alloc, b"show", lines.as_slice())?)
 }
 
-/// Returns the text to which printed lines and columns refer: the export of the library, since its
-/// texts are not kept. Returns an empty text if the answer prints none.
-fn text_of(
-    alloc: Global,
-    library: &Library,
-    kind: LabelQuestionKind,
-) -> Result<Vec<u8>, AllocError> {
-    match kind {
-        LabelQuestionKind::Show => library.export(),
-        _ => Ok(Vec::new(alloc)),
+/// Returns the bytes of a description, if there is one.
+fn bytes_of(description: &Option<Vec<u8>>) -> Option<&[u8]> {
+    match description {
+        Some(bytes) => Some(bytes.as_slice()),
+        None => None,
+    }
+}
+
+/// Returns the answer to `find`: the assertions whose expression has the pattern.
+fn found_answer(alloc: Global, library: &Library, pattern: &[u8]) -> Result<Vec<u8>, Fault>
+    ensures { IfOk result (λ text. IsLabelAnswer
+        library.now.replica.statements Find pattern.now text.items) }
+{
+    let lines = pattern_lines(alloc, library, pattern)?;
+    Ok(counted_lines(alloc, b"find", lines.as_slice())?)
+}
+
+/// Returns the answer to `proof`: the steps of the proof.
+fn proof_answer(alloc: Global, library: &Library, label: &[u8]) -> Result<Vec<u8>, Fault> {
+    let question = Question::Proof(ProofQuestion {
+        label,
+        essential_only: false,
+        form: ProofForm::Steps,
+    });
+    let mut lines = Vec::new(alloc);
+    match write_answer(alloc, library, &question, &mut lines) {
+        // A write to a list of bytes fails only if an allocation fails.
+        Err(Fault::Output) => Err(Fault::Memory(AllocError)),
+        Err(fault) => Err(fault),
+        Ok(()) => Ok(counted_lines(alloc, b"proof", lines.as_slice())?),
     }
 }
 

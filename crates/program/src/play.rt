@@ -5,7 +5,7 @@ ghost use Rattle.event_lines.specs.EventLines.{counted_event_lines};
 use crate::node_answers::{ahead_line, compare_libraries, label_answer};
 use crate::scripts::{AnswerLines, answer_lines, read_script};
 use crate::why::{decision_of, push_why};
-use commands::{CommonLine, NodeEntryId, PlayLine, PlayOptions};
+use commands::{CommonLine, LabelQuestionKind, NodeEntryId, NodeQuestion, PlayLine, PlayOptions};
 use event_lines::push_events;
 use library::Entry;
 use net::Event;
@@ -80,11 +80,7 @@ fn answer_common_line(
             // No node of `play` is down.
             Ok(push_state(text, &state, applied, false)?)
         }
-        CommonLine::Ask(question) => {
-            let alloc = *text.allocator();
-            let answer = label_answer(alloc, world.library(question.node)?, &question)?;
-            Ok(text.extend_from_slice(answer.as_slice())?)
-        }
+        CommonLine::Ask(question) => push_label_answer(world, &question, text),
         CommonLine::Compare(pair) => {
             let ahead = compare_libraries(world.library(pair.first)?, world.library(pair.second)?);
             Ok(text.extend_from_slice(ahead_line(ahead))?)
@@ -93,11 +89,26 @@ fn answer_common_line(
     }
 }
 
+/// Appends the answer to a question about a label of a node's library.
+fn push_label_answer(
+    world: &World,
+    question: &NodeQuestion,
+    text: &mut Vec<u8>,
+) -> Result<(), Fault> {
+    let alloc = *text.allocator();
+    let entries = match question.kind {
+        LabelQuestionKind::Show => applied_entries(world, question.node)?,
+        _ => Vec::new(alloc),
+    };
+    let library = world.library(question.node)?;
+    let answer = label_answer(alloc, library, entries.as_slice(), question)?;
+    Ok(text.extend_from_slice(answer.as_slice())?)
+}
+
 /// Appends why the node refused an entry.
 fn push_why_at(world: &World, entry_id: NodeEntryId, text: &mut Vec<u8>) -> Result<(), Fault> {
     let alloc = *text.allocator();
-    let mut entries = world.log(entry_id.node)?;
-    entries.truncate(world.applied(entry_id.node)? as usize);
+    let entries = applied_entries(world, entry_id.node)?;
     let decision = decision_of(
         alloc,
         world.library(entry_id.node)?,
@@ -105,6 +116,13 @@ fn push_why_at(world: &World, entry_id: NodeEntryId, text: &mut Vec<u8>) -> Resu
         entry_id,
     )?;
     Ok(push_why(alloc, text, &decision)?)
+}
+
+/// Returns the entries of a node's log that its library applied, in order.
+fn applied_entries(world: &World, node: u8) -> Result<Vec<Option<Entry>>, Fault> {
+    let mut entries = world.log(node)?;
+    entries.truncate(world.applied(node)? as usize);
+    Ok(entries)
 }
 
 /// Appends the history so far, as lines of `play` after their count.

@@ -1,5 +1,6 @@
 //! Why a node refused an entry: the entry is checked again after exactly the statements that the
 //! library had when it was decided.
+use crate::added_texts::added_texts;
 use bytes::Bytes;
 use commands::NodeEntryId;
 use explanation::{DatabaseFault, explain_after};
@@ -9,7 +10,6 @@ use places::{line_and_column, token_span};
 use printed::push_counted_lines;
 use questions::{Fault, fault_of};
 use std::alloc::{AllocError, Global};
-use std::collections::BTreeSet;
 use text::push_number;
 
 /// The decision of a node on an entry.
@@ -50,9 +50,7 @@ pub fn decision_of(
         Some(Verdict::Refused(cause)) => cause,
         Some(_) => return Ok(Decision::Added),
     };
-    let mut earlier = BTreeSet::new(alloc);
-    let mut added = Vec::new(alloc);
-    for entry in entries {
+    for (index, entry) in entries.iter().enumerate() {
         let Some(entry) = entry else {
             continue;
         };
@@ -61,27 +59,12 @@ pub fn decision_of(
                 cause,
                 limit: library.limit(),
                 entry: entry.copy()?,
-                added,
+                added: added_texts(alloc, library, &entries[..index])?,
                 export: library.export()?,
             }));
         }
-        // A later entry with the same author and serial number is a repeat, which adds nothing.
-        if earlier.insert((entry.author(), entry.serial()))? {
-            push_added(&mut added, library, entry)?;
-        }
     }
     Ok(Decision::Unknown)
-}
-
-/// Appends the text of an entry, if the library added it.
-fn push_added(added: &mut Vec<Bytes>, library: &Library, entry: &Entry) -> Result<(), AllocError> {
-    let verdict = library.status(entry.author(), entry.serial());
-    if let Entry::Text(submission) = entry
-        && verdict == Some(Verdict::Added)
-    {
-        added.push(submission.text.clone()?)?;
-    }
-    Ok(())
 }
 
 /// Appends why the entry is refused: `why`, the count of the lines, and the lines. There are no

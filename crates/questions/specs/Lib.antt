@@ -1,1 +1,4 @@
 pub mod SoFar
+pub mod AllFaults
+pub mod Searches
+pub mod Shown

@@ -1,15 +1,14 @@
 //! The answers to questions about a library.
-ghost use Rattle.std.specs.Prelude.{◌≡◌, IfOk};
+ghost use Rattle.std.specs.Prelude.{◌≡◌, ◌++◌, count_by, IfOk, OnOk};
 ghost use Rattle.library.specs.Queries.{IsTreeOf};
 ghost use Rattle.verify.specs.Derivations.{Derivation};
+ghost use Rattle.scope.specs.Active.{is_provable};
+ghost use Rattle.questions.specs.AllFaults.{counted_line};
 ghost use Rattle.printed.specs.Trees.{tree_lines};
 
 use crate::fault::Fault;
-use crate::named_text::NamedText;
 use crate::proof_texts::write_export_with_proofs;
 use crate::proofs::write_proof;
-use crate::searches::matching_lines;
-use crate::shown::blocks_of_labels;
 use crate::streams::print;
 use commands::Question;
 use extract::extract;
@@ -21,16 +20,13 @@ use std::alloc::{AllocError, Global};
 use std::io::Write;
 use text::push_number;
 
-/// Writes the answer to a question about a library. `text` has the same statements, in order, but a
-/// `$a` of the library may be a `$p` there (`--assume`); it may be empty if the answer prints
-/// neither lines and columns nor descriptions.
+/// Writes the answer to a question about a library, but to none that needs no proofs.
 ///
 /// Errors: those of the question, before anything is written; `Output` if a write fails; `Memory`
 /// if an allocation fails, perhaps after some steps of a proof.
 pub fn write_answer<O: Write>(
     alloc: Global,
     library: &Library,
-    text: NamedText<'_>,
     question: &Question<'_>,
     output: &mut O,
 ) -> Result<(), Fault> {
@@ -57,32 +53,8 @@ pub fn write_answer<O: Write>(
                 extract(alloc, library, labels.as_slice())?.as_slice(),
             )
         }
-        Question::Show(labels) => {
-            print(
-                output,
-                blocks_of_labels(
-                    alloc,
-                    library.statements(),
-                    library.frames(),
-                    text,
-                    labels.as_slice(),
-                )?
-                .as_slice(),
-            )
-        }
-        Question::Find(query) => {
-            print(
-                output,
-                matching_lines(
-                    alloc,
-                    library.statements(),
-                    library.frames(),
-                    text.bytes,
-                    query,
-                )?
-                .as_slice(),
-            )
-        }
+        // A database answers these without its proofs (`searches`).
+        Question::Show(_) | Question::Find(_) => Ok(()),
     }
 }
 
@@ -97,17 +69,14 @@ fn proved_line(alloc: Global, statements: &[Stmt]) -> Result<Vec<u8>, AllocError
 /// Returns the line `proved N of N`, where N is the number of `$p`.
 fn all_proved_line(alloc: Global, statements: &[Stmt]) -> Result<Vec<u8>, AllocError> {
     let mut line = Vec::new(alloc);
-    push_proved(&mut line, statements, 0)?;
+    push_proved(&mut line, count_of_proofs(statements), 0)?;
     Ok(line)
 }
 
-/// Appends the line `proved N of M`: there are M `$p`, and all but `unproved` of them are proved.
-pub fn push_proved(
-    line: &mut Vec<u8>,
-    statements: &[Stmt],
-    unproved: usize,
-) -> Result<(), AllocError> {
-    let all = count_of_proofs(statements);
+/// Appends the line `proved N of M`: there are `all` `$p`, of which `unproved` are not proved.
+pub fn push_proved(line: &mut Vec<u8>, all: usize, unproved: usize) -> Result<(), AllocError>
+    ensures { OnOk result (line.new.items ≡ line.old.items ++ counted_line all unproved) }
+{
     line.extend_from_slice(b"proved ")?;
     push_number(line, all.saturating_sub(unproved) as u64)?;
     line.extend_from_slice(b" of ")?;
@@ -116,14 +85,20 @@ pub fn push_proved(
 }
 
 /// Returns how many of the statements are `$p`.
-fn count_of_proofs(statements: &[Stmt]) -> usize {
-    let mut count = 0usize;
-    for statement in statements {
-        if let Stmt::Prove { .. } = statement {
-            count = count.saturating_add(1);
-        }
-    }
-    count
+pub fn count_of_proofs(statements: &[Stmt]) -> usize
+    ensures { result ≡ count_by is_provable statements.now }
+{
+    statements
+        .iter()
+        .filter(|statement| is_provable(*statement))
+        .count()
+}
+
+/// Returns whether a statement is a `$p`.
+pub fn is_provable(statement: &Stmt) -> bool
+    ensures { result ≡ is_provable statement.now }
+{
+    matches!(statement, Stmt::Prove { .. })
 }
 
 /// Returns a line for each assertion.

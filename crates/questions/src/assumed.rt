@@ -2,7 +2,6 @@
 
 use crate::databases::answer_accepted;
 use crate::fault::Fault;
-use crate::named_text::NamedText;
 use crate::streams::print;
 use commands::{DatabaseQuestion, Question};
 use library::{AskFault, Library};
@@ -26,13 +25,12 @@ const MAX_NAMED: usize = 10;
 pub fn answer_assuming<R: AllocGlobal + Threads + Sync, O: Write, F: Write>(
     rt: &R,
     request: &DatabaseQuestion<'_>,
-    text: NamedText<'_>,
     database: LegalDatabase,
     output: &mut O,
     stderr: &mut F,
 ) -> Result<u8, Fault> {
     let assumed = assume_unproved(rt, database, stderr)?;
-    let answered = answer_marked(rt.alloc(), &assumed, text, request, output, stderr);
+    let answered = answer_marked(rt.alloc(), &assumed, request, output, stderr);
     forget(assumed);
     answered
 }
@@ -42,7 +40,6 @@ pub fn answer_assuming<R: AllocGlobal + Threads + Sync, O: Write, F: Write>(
 fn answer_marked<O: Write, F: Write>(
     alloc: Global,
     assumed: &AssumedDatabase,
-    text: NamedText<'_>,
     request: &DatabaseQuestion<'_>,
     output: &mut O,
     stderr: &mut F,
@@ -61,7 +58,7 @@ fn answer_marked<O: Write, F: Write>(
         let _ = print_not_proved(label, stderr);
         return Ok(1);
     }
-    answer_accepted(alloc, library, text, &request.question, output, stderr)
+    answer_accepted(alloc, library, &request.question, output, stderr)
 }
 
 /// Returns the label of a question about the proof of a `$p`, or `None` for another question.

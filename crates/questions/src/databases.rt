@@ -1,4 +1,5 @@
 //! Commands about a database: they read and check it, and answer the question.
+use crate::all_faults::print_all_faults;
 use crate::answers::write_answer;
 use crate::fault::Fault;
 use crate::named_text::NamedText;
@@ -87,7 +88,7 @@ fn answer_with_library<R: AllocGlobal + Threads + Sync, O: Write, F: Write>(
     }
     match apply_text(rt, library, bytes)? {
         Verdict::Refused(cause) => answer_refused(rt, request, text, cause, output, stderr),
-        _ => answer_accepted(rt.alloc(), library, text, &request.question, output, stderr),
+        _ => answer_accepted(rt.alloc(), library, &request.question, output, stderr),
     }
 }
 
@@ -105,18 +106,16 @@ pub fn apply_text<R: Threads + Sync>(
     library.apply_with(rt, Some(&entry), PoolSize::for_machine(rt), &OpenGate)
 }
 
-/// Prints the answer about a library, and returns the exit status. `text` has the same statements,
-/// in order, but a `$a` of the library may be a `$p` there (`--assume`). The reason for a refusal
-/// goes to `stderr`.
+/// Prints the answer about a library, and returns the exit status. The reason for a refusal goes to
+/// `stderr`.
 pub fn answer_accepted<O: Write, F: Write>(
     alloc: Global,
     library: &Library,
-    text: NamedText<'_>,
     question: &Question<'_>,
     output: &mut O,
     stderr: &mut F,
 ) -> Result<u8, Fault> {
-    match write_answer(alloc, library, text, question, output) {
+    match write_answer(alloc, library, question, output) {
         Ok(()) => {
             note_if_empty(library, question, stderr);
             Ok(0)
@@ -135,7 +134,7 @@ fn note_if_empty<F: Write>(library: &Library, question: &Question<'_>, stderr: &
 }
 
 /// Prints the answer about a text that is refused: the refusal, unless a `$p` is not proved and the
-/// question is answered even then.
+/// question is answered even then, or all faults are asked for.
 fn answer_refused<R: AllocGlobal + Threads + Sync, O: Write, F: Write>(
     rt: &R,
     request: &DatabaseQuestion<'_>,
@@ -149,6 +148,10 @@ fn answer_refused<R: AllocGlobal + Threads + Sync, O: Write, F: Write>(
         if let Some(status) = answer_unproved(rt, request, text, output, stderr)? {
             return Ok(status);
         }
+    }
+    let is_faulty = matches!(cause, Cause::Text | Cause::Shape | Cause::Rule { .. });
+    if is_faulty && matches!(request.question, Question::CheckEach) {
+        return print_all_faults(rt, text, output, stderr);
     }
     print_refused_text(rt.alloc(), text, cause, output, stderr)
 }

@@ -26,6 +26,9 @@ pub enum Fault {
     /// A question about a label has no answer.
     #[error("refused {0:?}")]
     Ask(AskFault),
+    /// The database does not have a symbol of a pattern, or the pattern has none.
+    #[error("refused NoSymbol")]
+    NoSymbol,
     /// Assertions cannot be extracted.
     #[error("refused {0:?}")]
     Extract(ExtractFault),

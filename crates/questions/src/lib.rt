@@ -11,10 +11,12 @@
 //! `searches` (searches for assertions), `shown` (the answers to `show`: statements as
 //! blocks of lines), `works` (how much work a database is), `pages` (a site), `unproved_proofs`
 //! (questions that are answered even if some `$p` are not proved, among them `check --all`, which
-//! checks every `$p` by itself), `assumed` (each `$p` that is not proved taken as a `$a`),
-//! `refused_texts` and `refused_questions` (why there is no answer).
+//! checks every `$p` by itself), `all_faults` (the same of a text with other faults), `assumed`
+//! (each `$p` that is not proved taken as a `$a`), `refused_texts` and `refused_questions` (why
+//! there is no answer).
 #![tactic(auto)]
 
+mod all_faults;
 mod answers;
 mod assumed;
 mod databases;
@@ -38,5 +40,7 @@ pub use fault::Fault;
 pub use named_text::NamedText;
 pub use pages::write_pages;
 pub use refused_texts::fault_of;
+pub use searches::pattern_lines;
+pub use shown::library_block;
 pub use streams::{print, read_at_most};
 pub use works::print_work;

@@ -95,7 +95,6 @@ fn refused_label<'a>(library: &Library, question: &Question<'a>, fault: &Fault) 
         Question::Usage { label, .. } => label,
         Question::Proof(proof) => proof.label,
         Question::Extract(labels) => first_refused(library, labels.as_slice(), fault),
-        Question::Show(labels) => first_refused(library, labels.as_slice(), fault),
         _ => b"",
     }
 }

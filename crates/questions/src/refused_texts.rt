@@ -1,4 +1,7 @@
 //! A database that is refused: the line that is printed, and the reason in words.
+ghost use Rattle.std.specs.Prelude.{◌≡◌, ◌++◌, IfOk, OnOk};
+ghost use Rattle.questions.specs.AllFaults.{refusal_line};
+
 use crate::fault::Fault;
 use crate::named_text::NamedText;
 use crate::streams::print;
@@ -27,11 +30,20 @@ pub fn print_refused_text<O: Write, F: Write>(
 }
 
 /// Returns the line for a database that is refused.
-fn refusal_line(alloc: Global, cause: Cause) -> Result<Vec<u8>, AllocError> {
+fn refusal_line(alloc: Global, cause: Cause) -> Result<Vec<u8>, AllocError>
+    ensures { IfOk result (λ line. line.items ≡ refusal_line cause) }
+{
     let mut line = Vec::new(alloc);
-    push_verdict(&mut line, Verdict::Refused(cause))?;
-    line.extend_from_slice(b"\n")?;
+    push_refusal(&mut line, cause)?;
     Ok(line)
+}
+
+/// Appends the line of a refusal.
+pub fn push_refusal(lines: &mut Vec<u8>, cause: Cause) -> Result<(), AllocError>
+    ensures { OnOk result (lines.new.items ≡ lines.old.items ++ refusal_line cause) }
+{
+    push_verdict(lines, Verdict::Refused(cause))?;
+    lines.extend_from_slice(b"\n")
 }
 
 /// Returns the fault to explain for a cause in a library with this limit on work; `None` for

@@ -1,6 +1,9 @@
 //! The commands `find` and `show` of a database. They need no proofs: they answer on any database
-//! that is legal.
-ghost use Rattle.std.specs.Prelude.{◌≡◌};
+//! that is legal. The same search is that of the line `find` of `play` and `serve`.
+ghost use Rattle.std.specs.Prelude.{◌≡◌, IfOk, IsSome, Err};
+ghost use Rattle.finding.specs.DeclaredSymbols.{undeclared_in};
+ghost use Rattle.questions.specs.declared.fault.Fault.TheVariants.{NoSymbol};
+ghost use Rattle.questions.specs.Searches.{AreLinesOf, AreSearched, ArePatternLines};
 ghost use Rattle.scope.specs.Active.{bares};
 
 use crate::assumed::print_assumed;
@@ -10,15 +13,16 @@ use crate::shown::blocks_of_labels;
 use crate::streams::print;
 use crate::unproved_proofs::read_legal_database;
 use commands::{DatabaseQuestion, Question};
-use finding::{SearchQuery, SearchedDatabase, found_lines};
+use finding::{Pattern, PatternFault, SearchQuery, SearchedDatabase, found_lines};
 use frame::Frames;
-use library::AskFault;
+use library::{AskFault, Library};
 use mm_lex::Span;
 use mm_read::Stmt;
 use places::descriptions;
 use std::alloc::{AllocError, Global};
 use std::io::Write;
 use std::mem::forget;
+use std::str::from_utf8;
 use std::thread::Threads;
 use text::push_number;
 use unproved::LegalDatabase;
@@ -113,20 +117,21 @@ fn print_found<O: Write, F: Write>(
     output: &mut O,
     stderr: &mut F,
 ) -> Result<u8, Fault> {
-    if let Some(symbol) = query.undeclared_symbol(database.statements()) {
-        print(output, b"refused NoSymbol\n")?;
-        let _ = print_no_symbol(symbol, stderr);
-        return Ok(1);
+    let statements = database.statements();
+    match matching_lines(alloc, statements, database.frames(), text.bytes, query) {
+        Ok(lines) => {
+            print(output, lines.as_slice())?;
+            Ok(0)
+        }
+        Err(Fault::NoSymbol) => {
+            Fault::NoSymbol.write(output)?;
+            if let Some(symbol) = query.undeclared_symbol(statements) {
+                let _ = print_no_symbol(symbol, stderr);
+            }
+            Ok(1)
+        }
+        Err(fault) => Err(fault),
     }
-    let lines = matching_lines(
-        alloc,
-        database.statements(),
-        database.frames(),
-        text.bytes,
-        query,
-    )?;
-    print(output, lines.as_slice())?;
-    Ok(0)
 }
 
 /// Prints that the database does not have a symbol.
@@ -178,16 +183,46 @@ fn print_no_label<F: Write>(frames: &Frames, labels: &[&str], stderr: &mut F) ->
     Ok(())
 }
 
+/// Returns a line for each assertion of a library that has a pattern, as `find` prints it.
+///
+/// Errors: `NoSymbol` if the pattern has no symbol, or one that the library does not have; `Memory`.
+/// Cost: the size of the statements, times that of the pattern.
+pub fn pattern_lines(alloc: Global, library: &Library, pattern: &[u8]) -> Result<Vec<u8>, Fault>
+    ensures { IfOk result (λ lines. ArePatternLines library.now.replica.statements pattern.now lines.items) }
+{
+    let Ok(text) = from_utf8(pattern) else {
+        return Err(Fault::NoSymbol);
+    };
+    match Pattern::parse(alloc, text) {
+        Ok(parsed) => matching_lines(
+            alloc,
+            library.statements(),
+            library.frames(),
+            b"",
+            &SearchQuery::Pattern(parsed),
+        ),
+        Err(PatternFault::Memory) => Err(Fault::Memory(AllocError)),
+        Err(_) => Err(Fault::NoSymbol),
+    }
+}
+
 /// Returns a line for each assertion that matches a search.
-pub fn matching_lines(
+///
+/// Errors: `NoSymbol` if the statements do not declare a symbol of its pattern; `Memory`.
+fn matching_lines(
     alloc: Global,
     statements: &[Stmt],
     frames: &Frames,
     text: &[u8],
     query: &SearchQuery<'_>,
-) -> Result<Vec<u8>, AllocError>
+) -> Result<Vec<u8>, Fault>
     requires { frames.now.statements ≡ bares statements.now }
+    ensures found { IfOk result (λ lines. AreLinesOf text.now statements.now query.now lines.items) }
+    ensures no_symbol { IsSome (undeclared_in statements.now query.now) → result ≡ Err NoSymbol }
 {
+    if query.undeclared_symbol(statements).is_some() {
+        return Err(Fault::NoSymbol);
+    }
     let descriptions = descriptions_for(alloc, text, query)?;
     let database = SearchedDatabase {
         text,
@@ -195,7 +230,7 @@ pub fn matching_lines(
         frames,
         descriptions: descriptions.as_slice(),
     };
-    found_lines(alloc, &database, query)
+    Ok(found_lines(alloc, &database, query)?)
 }
 
 /// Returns the spans of the descriptions of a text, or an empty list if the search does not read
@@ -204,7 +239,9 @@ fn descriptions_for(
     alloc: Global,
     text: &[u8],
     query: &SearchQuery<'_>,
-) -> Result<Vec<Option<Span>>, AllocError> {
+) -> Result<Vec<Option<Span>>, AllocError>
+    ensures { IfOk result (λ spans. AreSearched query.now text.now spans.items) }
+{
     match query {
         SearchQuery::Words(_) => descriptions(alloc, text),
         _ => Ok(Vec::new(alloc)),

@@ -1,12 +1,13 @@
 //! The command `show`: statements as blocks of lines (not the blocks of `${` and `$}`). The
 //! description of a statement is the last comment between the statement before it and itself.
-ghost use Rattle.std.specs.Prelude.{◌≡◌};
+ghost use Rattle.std.specs.Prelude.{◌≡◌, option_map, IfOk};
+ghost use Rattle.questions.specs.Shown.{IsShown};
 ghost use Rattle.scope.specs.Active.{bares};
 
 use crate::fault::Fault;
 use crate::named_text::NamedText;
 use frame::Frames;
-use library::AskFault;
+use library::{AskFault, Library};
 use memchr::memchr_iter;
 use mm_lex::{Span, tokens};
 use mm_read::Stmt;
@@ -56,6 +57,42 @@ pub fn blocks_of_labels(
         push_statement_block(alloc, &mut blocks, &database, *at)?;
     }
     Ok(blocks)
+}
+
+/// Returns the block of the statement of a library with a label, with this description. Its place
+/// is that in the export, of which each statement is a line.
+///
+/// Errors: `NoLabel` if no statement has the label; `Memory` if an allocation fails.
+pub fn library_block(
+    alloc: Global,
+    library: &Library,
+    label: &[u8],
+    description: Option<&[u8]>,
+) -> Result<Vec<u8>, Fault>
+    ensures { IfOk result (λ block. IsShown library.now.replica.statements label.now
+        (option_map (λ d. d.now) description.entry) block.items) }
+{
+    let statements = library.statements();
+    let Some(position) = library.frames().position(label) else {
+        return Err(Fault::Ask(AskFault::NoLabel));
+    };
+    if position == 0 || position > statements.len() {
+        return Err(Fault::Ask(AskFault::NoLabel));
+    }
+    let input = BlockInput {
+        statements,
+        frames: library.frames(),
+        statement: &statements[position - 1],
+        position,
+        line_and_column: LineAndColumn {
+            line: position,
+            column: 1,
+        },
+        description,
+    };
+    let mut block = Vec::new(alloc);
+    push_block(alloc, &mut block, &input)?;
+    Ok(block)
 }
 
 /// Returns the position of the statement of each label.

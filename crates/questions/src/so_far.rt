@@ -1,6 +1,8 @@
 //! The command `proof --so-far`: the steps of a proof up to its first fault, the results on the
 //! stack, and what the theorem asks for.
-ghost use Rattle.std.specs.Prelude.{◌≡◌, ◌++◌, OnOk};
+ghost use Rattle.std.specs.Prelude.{◌≡◌, ◌++◌, MatchResult, OnOk};
+ghost use Rattle.frame.specs.Citations.{Carries};
+ghost use Rattle.library.specs.Queries.{HasNoLabel};
 ghost use Rattle.mm_read.specs.declared.stmt.Stmt.{Stmt as Statement};
 ghost use Rattle.proof_pages.specs.StepLines.{expr_text, number_text, symbol_text};
 ghost use Rattle.questions.specs.SoFar.{known_line, result_line, result_lines};
@@ -63,7 +65,7 @@ fn explain_one<F: Write>(
     stderr: &mut F,
 ) {
     if let Ok(tokens) = TextTokens::new(alloc, text.bytes)
-        && let Ok(lines) = explain_unproved(alloc, text.name, &tokens, database, at)
+        && let Ok(lines) = explain_unproved(alloc, text.name, &tokens, database, &[], at)
     {
         let _ = print(stderr, lines.as_slice());
     }
@@ -80,12 +82,26 @@ fn write_so_far<O: Write>(
 ) -> Result<usize, Fault> {
     let frames = database.frames();
     let statements = database.statements();
-    let at = frames.position(label).ok_or(AskFault::NoLabel)?;
+    let at = position_of(frames, label)?;
     let Some(theorem) = theorem_at(statements, at) else {
         return Err(Fault::from(AskFault::NotProvable));
     };
     write_steps(alloc, frames, at, theorem.proof, output)?;
     Ok(at)
+}
+
+/// Returns the position of the statement with a label.
+///
+/// Errors: `NoLabel`, exactly if no statement has it.
+fn position_of(frames: &Frames, label: &[u8]) -> Result<usize, AskFault>
+    ensures { MatchResult result
+        (λ at. (s : Statement) × Carries frames.now.statements at s label.now)
+        (λ fault. (fault ≡ AskFault.NoLabel) × HasNoLabel frames.now.statements label.now) }
+{
+    match frames.position(label) {
+        Some(at) => Ok(at),
+        None => Err(AskFault::NoLabel),
+    }
 }
 
 /// Writes the steps of a proof of the `$p` at a position so far, with the results on the stack and

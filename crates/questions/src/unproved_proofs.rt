@@ -1,20 +1,22 @@
 //! Questions that are answered even if some `$p` of a text are not proved.
-ghost use Rattle.std.specs.Prelude.{length};
+ghost use Rattle.std.specs.Prelude.{◌≡◌, ◌++◌, count_by, flat_map, length, min, IfOk};
 ghost use Rattle.std.specs.List.{All};
+ghost use Rattle.scope.specs.Active.{is_provable};
+ghost use Rattle.questions.specs.AllFaults.{counted_line, unproved_line};
 ghost use Rattle.unproved.specs.Unproved.{IsPositionOf};
 
-use crate::answers::push_proved;
+use crate::answers::{count_of_proofs, push_proved};
 use crate::assumed::answer_assuming;
 use crate::fault::Fault;
 use crate::named_text::NamedText;
+use crate::refused_texts::push_refusal;
 use crate::so_far::print_so_far;
 use crate::streams::print;
 use commands::{DatabaseQuestion, ProofForm, Question};
 use explanation::{TextTokens, explain_unproved};
-use library::{MAX_BYTES, Verdict};
+use library::MAX_BYTES;
 use memchr::memchr2_iter;
 use mm_read::ReadFault;
-use printed::push_verdict;
 use read_pool::read_in_parts;
 use std::alloc::{AllocError, Global};
 use std::io::Write;
@@ -25,6 +27,13 @@ use verify_pool::PoolSize;
 
 /// The greatest count of lines that are explained.
 const MAX_EXPLAINED: usize = 100;
+
+/// Returns how many of so many lines are explained: the first 100.
+pub fn explained_count(lines: usize) -> usize
+    ensures { result ≡ min lines 100 }
+{
+    lines.min(MAX_EXPLAINED)
+}
 
 /// Returns whether a question is answered even if some `$p` are not proved.
 pub fn allows_unproved(request: &DatabaseQuestion<'_>) -> bool {
@@ -76,7 +85,7 @@ pub fn answer_unproved<R: AllocGlobal + Threads + Sync, O: Write, F: Write>(
         Question::Proof(proof) if matches!(proof.form, ProofForm::SoFar) => {
             print_so_far(rt.alloc(), text, database, proof.label, output, stderr)?
         }
-        _ => answer_assuming(rt, request, text, database, output, stderr)?,
+        _ => answer_assuming(rt, request, database, output, stderr)?,
     };
     Ok(Some(status))
 }
@@ -103,7 +112,7 @@ pub fn read_legal_database<R: AllocGlobal + Threads + Sync>(
 }
 
 /// Prints a line for each `$p` of a text that is not proved and the count of those that are, and
-/// explains the first `MAX_EXPLAINED` lines on `stderr`; returns the exit status.
+/// explains the first lines on `stderr`; returns the exit status.
 ///
 /// The statements are leaked: the end of the process frees all of them at once.
 fn print_each<R: AllocGlobal + Threads + Sync, O: Write, F: Write>(
@@ -144,17 +153,22 @@ fn unproved_lines(
     unproved: &[usize],
 ) -> Result<Vec<u8>, AllocError>
     requires { All (IsPositionOf (length database.now)) unproved.now }
+    ensures { IfOk result (λ lines. lines.items ≡ flat_map (unproved_line database.now) unproved.now
+        ++ counted_line (count_by is_provable database.now) (length unproved.now)) }
 {
     let mut lines = Vec::new(alloc);
     for at in unproved {
-        push_verdict(&mut lines, Verdict::Refused(database.cause(*at)))?;
-        lines.extend_from_slice(b"\n")?;
+        push_refusal(&mut lines, database.cause(*at))?;
     }
-    push_proved(&mut lines, database.statements(), unproved.len())?;
+    push_proved(
+        &mut lines,
+        count_of_proofs(database.statements()),
+        unproved.len(),
+    )?;
     Ok(lines)
 }
 
-/// Explains the first `MAX_EXPLAINED` lines, if allocation succeeds.
+/// Explains the first lines, if allocation succeeds.
 fn explain_each<F: Write>(
     alloc: Global,
     text: NamedText<'_>,
@@ -165,8 +179,8 @@ fn explain_each<F: Write>(
     let Ok(tokens) = TextTokens::new(alloc, text.bytes) else {
         return;
     };
-    for at in unproved.iter().take(MAX_EXPLAINED) {
-        let Ok(lines) = explain_unproved(alloc, text.name, &tokens, database, *at) else {
+    for at in &unproved[..explained_count(unproved.len())] {
+        let Ok(lines) = explain_unproved(alloc, text.name, &tokens, database, &[], *at) else {
             return;
         };
         if print(stderr, lines.as_slice()).is_err() {

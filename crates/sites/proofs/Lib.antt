@@ -1,5 +1,6 @@
 pub mod Words
 pub mod SiteLemmas
+pub mod PageLemmas
 pub mod ReferenceWords
 pub mod ListLemmas
 pub mod CitationLemmas

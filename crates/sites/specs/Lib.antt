@@ -3,3 +3,4 @@ pub mod References
 pub mod PassState
 pub mod Written
 pub mod Progress
+pub mod AssertionPages

@@ -10,26 +10,29 @@ use Rattle.text.specs.FileNames.{file_name}
 use Rattle.markup.specs.IndexItems.{items_of}
 use Rattle.markup.specs.Pages.{index_files}
 use Rattle.proof_pages.specs.declared.style.TheConstants.{STYLE_SHEET}
+use Rattle.sites.specs.AssertionPages.{IsPage}
 
--- files with these names were written, one after another; `writes` relates the folder before and
--- after one write
-abbrev pub WritesNamed : {F : Type 0} → (F → List ℕ → List ℕ → F → Type 0) → F → List (List ℕ) → F → Type 0
-WritesNamed writes old [] new = old ≡ new
-WritesNamed {F} writes old (name ∷ names) new = (bytes : List ℕ) × (next : F) × writes old name bytes next × WritesNamed writes next names new
+-- the pages of assertions, each by its position and the name of its file, were written, one after
+-- another; `is_page` tells which bytes are the page of the assertion at a position, and `writes`
+-- relates the folder before and after one write
+abbrev pub WritesPages : {F : Type 0} → (F → List ℕ → List ℕ → F → Type 0) → (ℕ → List ℕ → Type 0) → F → List (ℕ × List ℕ) → F → Type 0
+WritesPages writes is_page old [] new = old ≡ new
+WritesPages {F} writes is_page old (page ∷ pages) new =
+    (bytes : List ℕ) × (next : F) × is_page page.0 bytes × writes old page.1 bytes next × WritesPages writes is_page next pages new
 
--- the name of the page of the assertion with a label at a position; none without a label
-abbrev pub page_file_of_label : ℕ → Option Name → List (List ℕ)
+-- the position of the assertion with a label, and the name of its page; none without a label
+abbrev pub page_file_of_label : ℕ → Option Name → List (ℕ × List ℕ)
 page_file_of_label at None = []
-page_file_of_label at (Some label) = file_name label at ∷ []
+page_file_of_label at (Some label) = (at, file_name label at) ∷ []
 
--- the name of the page of a statement at a position; none if it is not an assertion
-abbrev pub page_file : ℕ → Stmt → List (List ℕ)
-page_file at (Axiom label expr) = file_name label at ∷ []
-page_file at (Prove label expr proof) = file_name label at ∷ []
+-- the same of the statement at a position; none if it is not an assertion
+abbrev pub page_file : ℕ → Stmt → List (ℕ × List ℕ)
+page_file at (Axiom label expr) = (at, file_name label at) ∷ []
+page_file at (Prove label expr proof) = (at, file_name label at) ∷ []
 page_file at s = []
 
--- the names of the pages of statements, the first of which is at the position `at`
-abbrev pub page_files : ℕ → Database → List (List ℕ)
+-- the same of statements, the first of which is at the position `at`
+abbrev pub page_files : ℕ → Database → List (ℕ × List ℕ)
 page_files at [] = []
 page_files at (s ∷ S) = page_file at s ++ page_files (suc at) S
 
@@ -46,5 +49,5 @@ pub record WritesSite {F : Type 0} (writes : F → List ℕ → List ℕ → F �
   pub styled : F
   pub paged : F
   pub style : writes opened (codes "style.css") STYLE_SHEET.now styled
-  pub pages : WritesNamed writes styled (page_files 1 S) paged
+  pub pages : WritesPages writes (IsPage S marks text) styled (page_files 1 S) paged
   pub index : WritesFiles writes paged (index_files S marks (items_of text)) new

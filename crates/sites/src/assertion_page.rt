@@ -1,11 +1,17 @@
 //! Makes the page of one assertion.
-ghost use Rattle.std.specs.Prelude.{◌≤◌, length};
+ghost use Rattle.std.specs.Prelude.{◌≡◌, ◌+◌, ◌<◌, [], length, get_or, option_map, Some, IfOk, IsTrue};
+ghost use Rattle.frame.specs.Citations.{Carries};
 ghost use Rattle.frame.specs.FrameOf.{HasAssertion};
 ghost use Rattle.mm_read.specs.declared.stmt.Stmt.{Stmt as Statement};
-ghost use Rattle.scope.specs.Active.{bares};
+ghost use Rattle.mm_read.specs.declared.stmt.Stmt.TheVariants.{Open};
+ghost use Rattle.scope.specs.Active.{is_assertion};
+ghost use Rattle.sites.specs.AssertionPages.{ArePageSources, IsPageOf, IsShownProof, bytes_of_span};
+ghost use Rattle.sites.specs.AssertionPages.{database_of, description_at};
+ghost use Rattle.sites.specs.PassState.{lists_of};
 
 use crate::CrossReferences;
 use crate::site::{SiteFault, SiteSources};
+use frame::Frames;
 use mm_lex::Span;
 use mm_read::Stmt;
 use proof_pages::{PageContents, ProofSteps, RelatedItems, Typecodes, write_site_page};
@@ -16,6 +22,8 @@ use steps::{essential_table, proof_table};
 #[derive(Drop)]
 pub struct PageSources<'a> {
     pub site: &'a SiteSources<'a>,
+    /// The frames of the statements of the library.
+    pub frames: &'a Frames,
     pub references: CrossReferences,
     /// The CSS classes of the typecodes of the library.
     pub typecodes: Typecodes,
@@ -23,75 +31,61 @@ pub struct PageSources<'a> {
     pub descriptions: Vec<Option<Span>>,
 }
 
-/// Appends the page of the assertion at an index, or nothing if the statement there is not an
-/// assertion.
-pub fn push_page(
-    alloc: Global,
-    sources: &PageSources<'_>,
-    index: usize,
-    page: &mut Vec<u8>,
-) -> Result<(), SiteFault> {
-    match sources.site.library.statements().get(index) {
-        Some(Stmt::Axiom { .. }) => push_axiom_page(alloc, sources, index + 1, page),
-        Some(Stmt::Prove { label, .. }) => push_theorem_page(
-            alloc,
-            sources,
-            label.as_bytes(),
-            page,
-        ),
-        _ => Ok(()),
+/// Returns the page of the assertion at an index.
+///
+/// Errors: an allocation fails.
+pub fn page_at(alloc: Global, sources: &PageSources<'_>, index: usize) -> Result<Vec<u8>, SiteFault>
+    requires within { index < length (database_of sources.now) }
+    requires sources { ArePageSources sources.now }
+    requires assertion { IsTrue (is_assertion (get_or (database_of sources.now) index Open)) }
+    ensures { IfOk result (λ page. IsPageOf sources.now (index + 1) page.items) }
+{
+    match &sources.site.library.statements()[index] {
+        Stmt::Prove { label, .. } => theorem_page(alloc, sources, index + 1, label.as_bytes()),
+        _ => assertion_page(alloc, sources, index + 1, None),
     }
 }
 
-/// Appends the page of the `$a` at a position.
-fn push_axiom_page(
+/// Returns the page of the `$p` at a position, which has this label.
+fn theorem_page(
     alloc: Global,
     sources: &PageSources<'_>,
     at: usize,
-    page: &mut Vec<u8>,
-) -> Result<(), SiteFault>
-    requires { (s : Statement)
-        × HasAssertion (bares sources.now.site.now.library.now.replica.statements) at s }
-{
-    push_assertion_page(alloc, sources, at, None, page)
-}
-
-/// Appends the page of the `$p` with a label.
-fn push_theorem_page(
-    alloc: Global,
-    sources: &PageSources<'_>,
     label: &[u8],
-    page: &mut Vec<u8>,
-) -> Result<(), SiteFault> {
-    let (at, items) = sources.site.library.items(label)?;
-    let frames = sources.site.library.frames();
-    let steps = proof_table(alloc, frames, at, &items)?;
-    let essential = essential_table(alloc, frames, at, &steps)?;
+) -> Result<Vec<u8>, SiteFault>
+    requires sources { ArePageSources sources.now }
+    requires named { (s : Statement) × Carries (database_of sources.now) at s label.now }
+    ensures { IfOk result (λ page. IsPageOf sources.now at page.items) }
+{
+    let (_position, items) = sources.site.library.items(label)?;
+    let steps = proof_table(alloc, sources.frames, at, &items)?;
+    let essential = essential_table(alloc, sources.frames, at, &steps)?;
     let proof = ProofSteps {
         steps: &steps,
         essential: &essential,
     };
-    push_assertion_page(alloc, sources, at, Some(proof), page)
+    assertion_page(alloc, sources, at, Some(proof))
 }
 
-/// Appends the page of the assertion at a position, with the steps of its proof if it has one.
-fn push_assertion_page(
+/// Returns the page of the assertion at a position, with the steps of its proof if it has one.
+fn assertion_page(
     alloc: Global,
     sources: &PageSources<'_>,
     at: usize,
     proof: Option<ProofSteps<'_>>,
-    page: &mut Vec<u8>,
-) -> Result<(), SiteFault>
-    requires { (s : Statement)
-        × HasAssertion (bares sources.now.site.now.library.now.replica.statements) at s }
+) -> Result<Vec<u8>, SiteFault>
+    requires sources { ArePageSources sources.now }
+    requires assertion { (s : Statement) × HasAssertion sources.now.frames.now.statements at s }
+    ensures { IfOk result (λ page.
+        IsShownProof (database_of sources.now) at sources.now.frames.now.names proof.entry
+        → IsPageOf sources.now at page.items) }
 {
     let index = at.saturating_sub(1);
     let axioms = positions_at(alloc, sources.references.axioms.as_slice(), index)?;
     let cited_by = positions_at(alloc, sources.references.cited_by.as_slice(), index)?;
-    let library = sources.site.library;
     let contents = PageContents {
-        statements: library.statements(),
-        frames: library.frames(),
+        statements: sources.site.library.statements(),
+        frames: sources.frames,
         typecodes: &sources.typecodes,
         at,
         proof,
@@ -99,27 +93,56 @@ fn push_assertion_page(
             axioms: axioms.as_slice(),
             cited_by: cited_by.as_slice(),
             is_unproved: sources.site.is_unproved,
-            description: description_at(sources, index),
+            description: description_at(sources.site.text, sources.descriptions.as_slice(), index),
         },
     };
-    Ok(write_site_page(alloc, page, &contents)?)
+    let mut page = Vec::new(alloc);
+    write_site_page(alloc, &mut page, &contents)?;
+    Ok(page)
 }
 
 /// Returns the positions of the list at an index, or an empty list if there is none.
-fn positions_at(alloc: Global, lists: &[Vec<usize>], index: usize) -> Result<Vec<u32>, AllocError> {
-    let mut positions = Vec::new(alloc);
-    if let Some(list) = lists.get(index) {
-        for position in list {
-            positions.push(u32::try_from(*position).map_err(|_| AllocError)?)?;
-        }
+fn positions_at(alloc: Global, lists: &[Vec<usize>], index: usize) -> Result<Vec<u32>, AllocError>
+    ensures { IfOk result (λ positions. positions.items ≡ get_or (lists_of lists.now) index []) }
+{
+    if index >= lists.len() {
+        return Ok(Vec::new(alloc));
     }
-    Ok(positions)
+    numbers_of(alloc, lists[index].as_slice())
 }
 
-/// Returns the description of the statement at an index, if it has one.
-fn description_at<'a>(sources: &'a PageSources<'a>, index: usize) -> Option<&'a [u8]> {
-    let Some(Some(span)) = sources.descriptions.as_slice().get(index) else {
+/// Returns positions as numbers of 32 bits.
+fn numbers_of(alloc: Global, positions: &[usize]) -> Result<Vec<u32>, AllocError>
+    ensures { IfOk result (λ numbers. numbers.items ≡ positions.now) }
+{
+    let mut numbers = Vec::new(alloc);
+    for position in positions {
+        if *position > u32::MAX as usize {
+            return Err(AllocError);
+        }
+        numbers.push(*position as u32)?;
+    }
+    Ok(numbers)
+}
+
+/// Returns the description of the statement at an index, if it has one; `spans` are those of the
+/// descriptions in the text.
+fn description_at<'a>(text: &'a [u8], spans: &[Option<Span>], index: usize) -> Option<&'a [u8]>
+    ensures { option_map (λ d. d.now) result ≡ description_at text.now spans.now index }
+{
+    if index >= spans.len() {
         return None;
-    };
-    sources.site.text.get(span.start..span.end)
+    }
+    bytes_of_span(text, spans[index])
+}
+
+/// Returns the bytes of a span, if there is one and it lies in the text.
+fn bytes_of_span(text: &[u8], span: Option<Span>) -> Option<&[u8]>
+    ensures { option_map (λ d. d.now) result ≡ bytes_of_span text.now span }
+{
+    let span = span?;
+    if span.end < span.start || text.len() < span.end {
+        return None;
+    }
+    Some(&text[span.start..span.end])
 }

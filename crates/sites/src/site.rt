@@ -1,13 +1,14 @@
 //! Writes the files of a site.
-ghost use Rattle.std.specs.Prelude.{◌≡◌, ℕ, ◌+◌, ◌<◌, ◌∷◌, [], length, get_or, option_map, codes};
-ghost use Rattle.std.specs.Prelude.{map, OnOk};
+ghost use Rattle.std.specs.Prelude.{◌≡◌, ℕ, ◌+◌, ◌<◌, length, get_or, is_some, option_map, map, OnOk};
 ghost use Rattle.markup.specs.IndexItems.{items_of};
 ghost use Rattle.markup.specs.Pages.{file_of, index_files};
 ghost use Rattle.mm_read.specs.declared.stmt.Stmt.TheVariants.{Open};
-ghost use Rattle.sites.specs.SiteFiles.{WritesNamed, page_file_of_label, page_file, page_files};
-ghost use Rattle.sites.specs.SiteFiles.{WritesFiles, WritesSite};
+ghost use Rattle.scope.specs.Active.{is_assertion};
+ghost use Rattle.sites.specs.AssertionPages.{ArePageSources, IsPage, IsPageOf, database_of};
+ghost use Rattle.sites.specs.SiteFiles.{WritesFiles, WritesPages, WritesSite};
+ghost use Rattle.sites.specs.SiteFiles.{page_file, page_file_of_label, page_files};
 
-use crate::assertion_page::{PageSources, push_page};
+use crate::assertion_page::{PageSources, page_at};
 use crate::progress::print_progress;
 use crate::{Folder, FolderFault, cross_references};
 use library::{AskFault, Library};
@@ -155,18 +156,6 @@ fn write_file<S: Folder>(
     }
 }
 
-/// Writes a file into the folder; the clause tells its name alone.
-fn write_named<S: Folder>(
-    alloc: Global,
-    folder: &mut S,
-    name: &[u8],
-    bytes: &[u8],
-) -> Result<(), SiteFault>
-    ensures { OnOk result (WritesNamed S.writes folder.old (name.now ∷ []) folder.new) }
-{
-    write_file(alloc, folder, name, bytes)
-}
-
 /// Writes a page for each assertion.
 fn write_pages<F: Write, S: Folder>(
     alloc: Global,
@@ -174,16 +163,22 @@ fn write_pages<F: Write, S: Folder>(
     folder: &mut S,
     progress: &mut F,
 ) -> Result<(), SiteFault>
-    ensures { OnOk result (WritesNamed S.writes folder.old
-        (page_files 1 site.now.library.now.replica.statements) folder.new) }
+    ensures { OnOk result (WritesPages S.writes
+        (IsPage site.now.library.now.replica.statements site.now.is_unproved.now site.now.text.now)
+        folder.old (page_files 1 site.now.library.now.replica.statements) folder.new) }
 {
+    let statements = site.library.statements();
+    let frames = site.library.frames();
+    let references = cross_references(alloc, site.library)?;
+    let typecodes = Typecodes::of(alloc, statements, frames)?;
+    let spans = descriptions(alloc, site.text)?;
     let sources = PageSources {
         site,
-        references: cross_references(alloc, site.library)?,
-        typecodes: Typecodes::of(alloc, site.library.statements(), site.library.frames())?,
-        descriptions: descriptions(alloc, site.text)?,
+        frames,
+        references,
+        typecodes,
+        descriptions: spans,
     };
-    let statements = site.library.statements();
     let total = count_of_assertions(statements);
     let mut written = 0u64;
     for index in 0..statements.len() {
@@ -203,25 +198,26 @@ fn write_page<S: Folder>(
     index: usize,
     folder: &mut S,
 ) -> Result<bool, SiteFault>
-    requires { index < length sources.now.site.now.library.now.replica.statements }
-    ensures { OnOk result (WritesNamed S.writes folder.old
-        (page_file (index + 1) (get_or sources.now.site.now.library.now.replica.statements index Open))
-        folder.new) }
+    requires within { index < length (database_of sources.now) }
+    requires sources { ArePageSources sources.now }
+    ensures { OnOk result (WritesPages S.writes (IsPageOf sources.now) folder.old
+        (page_file (index + 1) (get_or (database_of sources.now) index Open)) folder.new) }
 {
     let Some(label) = label_of(&sources.site.library.statements()[index]) else {
         return Ok(false);
     };
-    let mut page = Vec::new(alloc);
-    push_page(alloc, sources, index, &mut page)?;
+    let page = page_at(alloc, sources, index)?;
     let mut name = Vec::new(alloc);
     push_file_name(&mut name, label.as_bytes(), index + 1)?;
-    write_named(alloc, folder, name.as_slice(), page.as_slice())?;
+    write_file(alloc, folder, name.as_slice(), page.as_slice())?;
     Ok(true)
 }
 
 /// Returns the label of an assertion, or `None` if the statement is not an assertion.
 fn label_of(statement: &Stmt) -> Option<&Word>
-    ensures { (at : ℕ) → page_file at statement.now ≡ page_file_of_label at (option_map (λ label. label.now) result) }
+    ensures file { (at : ℕ) → page_file at statement.now
+        ≡ page_file_of_label at (option_map (λ label. label.now) result) }
+    ensures assertion { is_some result ≡ is_assertion statement.now }
 {
     match statement {
         Stmt::Axiom { label, .. } => Some(label),

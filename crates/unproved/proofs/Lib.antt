@@ -5,3 +5,4 @@ pub mod PlainLemmas
 pub mod PlainRightLemmas
 pub mod AssumedGoodLemmas
 mod RangeLemmas
+pub mod LegalPartLemmas

@@ -1,3 +1,4 @@
 pub mod Unproved
 pub mod StatementRanges
+pub mod LegalPart
 pub mod Laws

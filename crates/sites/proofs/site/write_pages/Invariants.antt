@@ -1,5 +1,7 @@
-use Rattle.sites.proofs.Words.{take, WritesNamed, page_files}
+use Rattle.sites.proofs.Words.{take, IsPage, WritesPages, page_files}
 use Rattle.sites.proofs.site.write_pages.Given as goal
 
 abbrev pub invariant-loop-index : goal.invariant-loop-index
-invariant-loop-index g l = WritesNamed g.S.Folder.writes l.fn.folder (page_files 1 (take l.index l.site.library.now.replica.statements)) l.folder
+invariant-loop-index g l =
+    WritesPages g.S.Folder.writes (IsPage l.site.library.now.replica.statements l.site.is_unproved.now l.site.text.now)
+    l.fn.folder (page_files 1 (take l.index l.site.library.now.replica.statements)) l.folder
