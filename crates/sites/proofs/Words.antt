@@ -27,6 +27,7 @@ pub use Rattle.markup.specs.declared.pages.IndexPage.{IndexPage}
 pub use Rattle.sites.specs.AssertionPages.{AreContents, AreSpans, IsDescription, IsPage, IsPageOf, IsShownProof, bytes_of_span, database_of, description_at}
 pub use Rattle.sites.specs.PassState.{lists_of}
 pub use Rattle.sites.specs.References.{AreListsOf, ArePositionsWhere}
+pub use Rattle.text.specs.FileNames.{file_name}
 pub use Rattle.sites.specs.SiteFiles.{WritesFiles, WritesPages, WritesSite, page_file, page_files}
 pub use Rattle.std.proofs.Common.{ap, append-nil, append_assoc, arith, refl, subst, sym, ◌∙◌}
 pub use Rattle.std.proofs.lemmas.List.{get_or_past, length-map, length-take-le, take_more}
