@@ -1,4 +1,4 @@
-use Rattle.sites.proofs.Words.{◌≡◌, ◌-◌, refl, false, slice_get, items_or_none, option_map, description_at, IsUser, Uses, database_of}
+use Rattle.sites.proofs.Words.{◌≡◌, ◌-◌, refl, false, slice_get, items_or_none, IsUser, Uses, database_of}
 use Rattle.sites.proofs.PageLemmas.{listed-at, page-made, within}
 use Rattle.sites.proofs.assertion_page.page_with_proof.Goals as goal
 
