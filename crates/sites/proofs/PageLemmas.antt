@@ -1,5 +1,5 @@
 -- The page of an assertion is that of its contents.
-use Rattle.sites.proofs.Words.{◌≡◌, ℕ, suc, ◌+◌, ◌-◌, ◌<◌, ◌≤◌, true, false, Bool, List, [], ◌++◌, length, get_or, slice_get, option_map, Some, Appends, sym, ◌∙◌, ap, subst, refl, arith, length-map, Good, HasAssertion, HasItems, IsProofOf, IsRight, Item, Carries, Name, Database, Stmt, Axiom, Prove, bare, bares, is_assertion, is_axiom, is_provable, label_of, legal-each, legal-labels, provable-bare, slice_get_read, stands-within, stmt_at, stmt_at-bares, AreContents, AreEssential, AreListsOf, ArePositionsWhere, AreRows, AreSteps, IsPage, PageContents, Row, page_html, steps_of}
+use Rattle.sites.proofs.Words.{◌≡◌, ℕ, zero, suc, ◌+◌, ◌-◌, ◌<◌, ◌≤◌, true, false, Bool, List, [], ◌∷◌, ◌++◌, length, get_or, slice_get, option_map, Some, Appends, sym, ◌∙◌, ap, subst, refl, arith, length-map, Good, HasAssertion, HasItems, IsProofOf, IsRight, Item, Carries, Name, Database, Stmt, Axiom, Prove, bare, bares, is_assertion, is_axiom, is_provable, label_of, legal-each, legal-labels, provable-bare, slice_get_read, stands-within, stmt_at, stmt_at-bares, AreContents, AreEssential, AreListsOf, ArePositionsWhere, AreRows, AreSteps, IsPage, PageContents, Row, Vec, items_or_none, lists_of, page_html, steps_of}
 
 -- ---- the statement
 
@@ -65,22 +65,29 @@ pub shown-proof : (S F : Database) (at : ℕ) (names : List Name) (items : List 
     → AreRows F at names steps → AreEssential F steps essential
     → (is : List Item) × HasItems S at is × AreSteps (bares S) at is (steps_of steps) × AreRows (bares S) at names steps × AreEssential (bares S) steps essential
 shown-proof S F at names items steps essential same has are rows kept = (
-      items,
-      has,
-      subst (λ D. AreSteps D at items (steps_of steps)) same are,
-      subst (λ D. AreRows D at names steps) same rows,
-      subst (λ D. AreEssential D steps essential) same kept,
-    )
+  items,
+  has,
+  subst (λ D. AreSteps D at items (steps_of steps)) same are,
+  subst (λ D. AreRows D at names steps) same rows,
+  subst (λ D. AreEssential D steps essential) same kept,
+)
 
 -- ---- the page
 
+-- the list at an index
+items-at : (lists : List (Vec ℕ)) (k : ℕ) → items_or_none (slice_get lists k) ≡ get_or (lists_of lists) k []
+items-at [] k = refl
+items-at (list ∷ lists) zero = refl
+items-at (list ∷ lists) (suc k) = items-at lists k
+
 -- the positions that are listed for the statement
-pub listed-at : (S : Database) (R : ℕ → ℕ → Type 0) (lists : List (List ℕ)) (at : ℕ) (list shown : List ℕ) → AreListsOf S R lists → (1 ≤ at) × (at ≤ length S)
-    → list ≡ get_or lists (at - 1) [] → shown ≡ list → ArePositionsWhere (R at) shown
+pub listed-at : (S : Database) (R : ℕ → ℕ → Type 0) (lists : List (Vec ℕ)) (at : ℕ) (list shown : List ℕ) → AreListsOf S R (lists_of lists) → (1 ≤ at) × (at ≤ length S)
+    → list ≡ items_or_none (slice_get lists (at - 1)) → shown ≡ list → ArePositionsWhere (R at) shown
 listed-at S R lists at list shown are w e f =
     let same : suc (at - 1) ≡ at = omega (arith, w.0) in
+    let here : ArePositionsWhere (R (suc (at - 1))) (get_or (lists_of lists) (at - 1) []) = are.each (at - 1) (omega (arith, w.0, w.1)) in
     subst (λ n. ArePositionsWhere (R n) shown) same
-    (subst (ArePositionsWhere (R (suc (at - 1)))) (sym (f ∙ e)) (are.each (at - 1) (omega (arith, w.0, w.1))))
+    (subst (ArePositionsWhere (R (suc (at - 1)))) (sym (f ∙ (e ∙ items-at lists (at - 1)))) here)
 
 pub page-made : (S : Database) (marks : List Bool) (text : List ℕ) (at : ℕ) (k : PageContents) (old new : List ℕ) → Appends (Some old) (Some new) (page_html true false k) → old ≡ [] → AreContents S marks text at k → IsPage S marks text at new
 page-made S marks text at k old new html empty are = record { contents = k; are = are; html = html ∙ ap (λ l. l ++ page_html true false k) empty }

@@ -7,8 +7,10 @@ pub use Rattle.library.specs.Queries.{IsProofOf}
 pub use Rattle.library.specs.Uses.{HasItems, Uses, IsUser, is_axiom}
 pub use Rattle.library.specs.Words.{Item, IsRight}
 pub use Rattle.mm_read.proofs.NextLemmas.{on_ok}
+pub use Rattle.proof_pages.specs.Colours.{classes_of}
 pub use Rattle.proof_pages.specs.Pages.{page_html}
 pub use Rattle.proof_pages.specs.declared.contents.PageContents.{PageContents}
+pub use Rattle.std.specs.Global.{Vec}
 pub use Rattle.std.specs.Io.KnownBytes.{Appends}
 pub use Rattle.steps.specs.Essential.{AreEssential}
 pub use Rattle.steps.specs.Rows.{AreRows, Row, steps_of}
@@ -24,9 +26,10 @@ pub use Rattle.markup.specs.IndexItems.{items_of}
 pub use Rattle.proof_pages.specs.declared.style.TheConstants.{STYLE_SHEET}
 pub use Rattle.markup.specs.Pages.{file_of, index_files}
 pub use Rattle.markup.specs.declared.pages.IndexPage.{IndexPage}
-pub use Rattle.sites.specs.AssertionPages.{AreContents, AreSpans, IsDescription, IsPage, IsPageOf, IsShownProof, bytes_of_span, database_of, description_at}
+pub use Rattle.sites.specs.AssertionPages.{AreContents, AreSpans, IsDescription, IsPage, IsPageOf, IsShownProof, database_of, description_at, items_or_none}
 pub use Rattle.sites.specs.PassState.{lists_of}
 pub use Rattle.sites.specs.References.{AreListsOf, ArePositionsWhere}
+pub use Rattle.text.specs.FileNames.{file_name}
 pub use Rattle.sites.specs.SiteFiles.{WritesFiles, WritesPages, WritesSite, page_file, page_files}
 pub use Rattle.std.proofs.Common.{ap, append-nil, append_assoc, arith, refl, subst, sym, ◌∙◌}
 pub use Rattle.std.proofs.lemmas.List.{get_or_past, length-map, length-take-le, take_more}

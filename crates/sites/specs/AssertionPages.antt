@@ -1,7 +1,8 @@
 -- What the page of an assertion shows.
 -- Source: this project's own form.
 -- The code asks the library for each part of the page.
-use Rattle.std.specs.Prelude.{◌≡◌, ℕ, ◌-◌, nat_lt, Bool, true, false, ◌||◌, if◌then◌else◌, List, length, Option, Some, None, option_map, slice_get}
+use Rattle.std.specs.Prelude.{◌≡◌, ℕ, ◌-◌, Bool, true, false, List, [], Option, Some, None, option_map, slice_get}
+use Rattle.std.specs.Global.{Vec}
 use Rattle.mm_lex.specs.Alphabet.{Name, word}
 use Rattle.mm_lex.specs.declared.span.Span.{Span}
 use Rattle.mm_read.specs.Reads.{Reads}
@@ -30,16 +31,13 @@ IsShownProof S at names (Some proof) =
     (items : List Item) × HasItems S at items × AreSteps (bares S) at items (steps_of proof.steps.now) × AreRows (bares S) at names proof.steps.now
     × AreEssential (bares S) proof.steps.now proof.essential.now
 
--- the bytes of a span of the text, if there is one
-abbrev pub bytes_of_span : List ℕ → Option Span → Option (List ℕ)
-bytes_of_span text None = None
-bytes_of_span text (Some s) = if nat_lt s.end s.start || nat_lt (length text) s.end then None else Some (word text s)
-
--- the description of the statement at an index, if these are the spans of the descriptions
+-- the bytes of the span of a description, if there is one
 abbrev pub description_or_none : List ℕ → Option (Option Span) → Option (List ℕ)
 description_or_none text None = None
-description_or_none text (Some span) = bytes_of_span text span
+description_or_none text (Some None) = None
+description_or_none text (Some (Some s)) = Some (word text s)
 
+-- the description of the statement at an index, if these are the spans of the descriptions
 abbrev pub description_at : List ℕ → List (Option Span) → ℕ → Option (List ℕ)
 description_at text spans index = description_or_none text (slice_get spans index)
 
@@ -50,6 +48,11 @@ AreSpans text spans = (S : Database) → Reads text S → AreDescriptions text S
 -- the description of the statement at a position of a text
 abbrev pub IsDescription : List ℕ → ℕ → Option (List ℕ) → Type 0
 IsDescription text at description = (spans : List (Option Span)) × AreSpans text spans × (description ≡ description_at text spans (at - 1))
+
+-- the positions of a list, or none if there is no list
+abbrev pub items_or_none : Option (Vec ℕ) → List ℕ
+items_or_none None = []
+items_or_none (Some list) = list.items
 
 -- the contents of the page of the assertion at a position: the steps of its proof, the `$a` that it
 -- rests on, the `$p` that cite it, and its description; the marks tell which theorems are not proved

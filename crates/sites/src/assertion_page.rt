@@ -1,13 +1,13 @@
 //! Makes the page of one assertion.
-ghost use Rattle.std.specs.Prelude.{◌≡◌, ◌+◌, ◌<◌, [], length, get_or, option_map, Some, IfOk, IsTrue};
+ghost use Rattle.std.specs.Prelude.{◌≡◌, ◌+◌, ◌<◌, length, get_or, option_map, slice_get, IfOk, IsTrue};
 ghost use Rattle.frame.specs.Citations.{Carries};
 ghost use Rattle.frame.specs.FrameOf.{HasAssertion};
+ghost use Rattle.mm_lex.specs.Alphabet.{word};
 ghost use Rattle.mm_read.specs.declared.stmt.Stmt.{Stmt as Statement};
 ghost use Rattle.mm_read.specs.declared.stmt.Stmt.TheVariants.{Open};
 ghost use Rattle.scope.specs.Active.{is_assertion};
-ghost use Rattle.sites.specs.AssertionPages.{ArePageSources, IsPageOf, IsShownProof, bytes_of_span};
-ghost use Rattle.sites.specs.AssertionPages.{database_of, description_at};
-ghost use Rattle.sites.specs.PassState.{lists_of};
+ghost use Rattle.sites.specs.AssertionPages.{ArePageSources, IsPageOf, IsShownProof, database_of};
+ghost use Rattle.sites.specs.AssertionPages.{description_at, items_or_none};
 
 use crate::CrossReferences;
 use crate::site::{SiteFault, SiteSources};
@@ -42,7 +42,7 @@ pub fn page_at(alloc: Global, sources: &PageSources<'_>, index: usize) -> Result
 {
     match &sources.site.library.statements()[index] {
         Stmt::Prove { label, .. } => theorem_page(alloc, sources, index + 1, label.as_bytes()),
-        _ => assertion_page(alloc, sources, index + 1, None),
+        _ => page_with_proof(alloc, sources, index + 1, None),
     }
 }
 
@@ -57,18 +57,18 @@ fn theorem_page(
     requires named { (s : Statement) × Carries (database_of sources.now) at s label.now }
     ensures { IfOk result (λ page. IsPageOf sources.now at page.items) }
 {
-    let (_position, items) = sources.site.library.items(label)?;
-    let steps = proof_table(alloc, sources.frames, at, &items)?;
+    let found = sources.site.library.items(label)?;
+    let steps = proof_table(alloc, sources.frames, at, &found.1)?;
     let essential = essential_table(alloc, sources.frames, at, &steps)?;
     let proof = ProofSteps {
         steps: &steps,
         essential: &essential,
     };
-    assertion_page(alloc, sources, at, Some(proof))
+    page_with_proof(alloc, sources, at, Some(proof))
 }
 
 /// Returns the page of the assertion at a position, with the steps of its proof if it has one.
-fn assertion_page(
+fn page_with_proof(
     alloc: Global,
     sources: &PageSources<'_>,
     at: usize,
@@ -103,12 +103,12 @@ fn assertion_page(
 
 /// Returns the positions of the list at an index, or an empty list if there is none.
 fn positions_at(alloc: Global, lists: &[Vec<usize>], index: usize) -> Result<Vec<u32>, AllocError>
-    ensures { IfOk result (λ positions. positions.items ≡ get_or (lists_of lists.now) index []) }
+    ensures { IfOk result (λ positions. positions.items ≡ items_or_none (slice_get lists.now index)) }
 {
-    if index >= lists.len() {
-        return Ok(Vec::new(alloc));
+    match lists.get(index) {
+        Some(list) => numbers_of(alloc, list.as_slice()),
+        None => Ok(Vec::new(alloc)),
     }
-    numbers_of(alloc, lists[index].as_slice())
 }
 
 /// Returns positions as numbers of 32 bits.
@@ -133,16 +133,23 @@ fn description_at<'a>(text: &'a [u8], spans: &[Option<Span>], index: usize) -> O
     if index >= spans.len() {
         return None;
     }
-    bytes_of_span(text, spans[index])
+    match spans[index] {
+        Some(span) => Some(span_bytes(text, span)),
+        None => None,
+    }
 }
 
-/// Returns the bytes of a span, if there is one and it lies in the text.
-fn bytes_of_span(text: &[u8], span: Option<Span>) -> Option<&[u8]>
-    ensures { option_map (λ d. d.now) result ≡ bytes_of_span text.now span }
+/// Returns the bytes of a span, as far as it lies in the text.
+fn span_bytes(text: &[u8], span: Span) -> &[u8]
+    ensures { result.now ≡ word text.now span }
 {
-    let span = span?;
-    if span.end < span.start || text.len() < span.end {
-        return None;
+    if span.start >= span.end || span.start >= text.len() {
+        return &[];
     }
-    Some(&text[span.start..span.end])
+    let (_, rest) = text.split_at(span.start);
+    let len = span.end - span.start;
+    if len >= rest.len() {
+        return rest;
+    }
+    rest.split_at(len).0
 }

@@ -9,8 +9,8 @@ theorem_page-requires-clause-named c =
     let stands = read-at S c.statements.result.now c.args.index x c.statements.ensures.statements c.requires.within c.index-statements-index.is in
     (x, record { stands = stands-at S c.args.index x stands; carried = ap label_of c.in-Prove.is ∙ ap Some (sym c.as_bytes.ensures.bytes) })
 
-pub assertion_page-requires-clause-assertion : goal.assertion_page-requires-clause-assertion
-assertion_page-requires-clause-assertion c =
+pub page_with_proof-requires-clause-assertion : goal.page_with_proof-requires-clause-assertion
+page_with_proof-requires-clause-assertion c =
     let S = database_of c.args.sources.now in
     let x = c.index-statements-index.result in
     let stands = read-at S c.statements.result.now c.args.index x c.statements.ensures.statements c.requires.within c.index-statements-index.is in
@@ -23,6 +23,6 @@ returns-in_default c =
     let x = c.index-statements-index.result in
     let stands = read-at S c.statements.result.now c.args.index x c.statements.ensures.statements c.requires.within c.index-statements-index.is in
     let kind : is_assertion x ≡ true = ap is_assertion (sym (get_or_from_slice_get S c.args.index x Open stands)) ∙ c.requires.assertion in
-    on_ok c.assertion_page.result
+    on_ok c.page_with_proof.result
     (λ page made. made (record { stmt = x; stands = stands-at S c.args.index x stands; kind = other-assertion x kind c.in_default.not-Prove }))
-    c.assertion_page.ensures
+    c.page_with_proof.ensures
