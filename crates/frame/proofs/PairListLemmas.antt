@@ -194,12 +194,6 @@ pub pushed-once : {T E : Type 0} (r : Result T E) (old new : List ℕ) (c : ℕ)
 pushed-once (Ok x) old new c none ok err once = subst IsEachOnce (sym ok) (once-push old c once none)
 pushed-once (Err x) old new c none ok err once = subst IsEachOnce (sym err) once
 
-pub adds-none : (before old : List ℕ) → AddsBefore before [] old old
-adds-none before old = record { more = []; whole = sym (append-nil old); each = λ c. none (has_number old c) (has_number before c); once = λ once. once }
-  where
-    none : (a b : Bool) → a ≡ (a || (b && false))
-    none a b = grind arith
-
 joined : (o b t e : Bool) → ((o || (b && t)) || (b && e)) ≡ (o || (b && (t || e)))
 joined o b t e = grind arith
 
@@ -238,18 +232,6 @@ pub record IsFound (before : List ℕ) (variable : ℕ) (all rest : List (List �
   pub is : list ≡ variable ∷ others
   pub each : (c : ℕ) → (has_number list c || (has_number before c && list_any (λ l. has_number l c) rest)) ≡ ((variable == c) || (has_number before c && list_any (λ l. has_number l c) all))
   pub once : IsEachOnce list
-
-pub found-start : (before : List ℕ) (variable : ℕ) (all : List (List ℕ)) → IsFound before variable all all (variable ∷ [])
-found-start before variable all = record { others = []; is = refl; each = λ c. ap (λ b. b || (has_number before c && list_any (λ l. has_number l c) all)) (or-false (variable == c)); once = (refl, tt) }
-
-pub found-more : (before : List ℕ) (variable : ℕ) (all rest : List (List ℕ)) (symbols list new : List ℕ) → IsFound before variable all (symbols ∷ rest) list → AddsBefore before symbols list new → IsFound before variable all rest new
-found-more before variable all rest symbols list new f adds = record {
-  others = f.others ++ adds.more;
-  is = adds.whole ∙ ap (λ l. l ++ adds.more) f.is;
-  each = λ c. ap (λ b. b || (has_number before c && list_any (λ l. has_number l c) rest)) (adds.each c)
-      ∙ (joined (has_number list c) (has_number before c) (has_number symbols c) (list_any (λ l. has_number l c) rest) ∙ f.each c);
-  once = adds.once f.once;
-}
 
 any-lists : (c : ℕ) (lists : List (List ℕ)) → list_any (λ l. has_number l c) lists ≡ list_any (λ l. list_any (λ d. c == d) l) lists
 any-lists c [] = refl

@@ -4,6 +4,7 @@ ghost use Rattle.std.specs.Prelude.{Some, IfOk, OnOk, OnErr};
 ghost use Rattle.names.specs.Codes.{name_at};
 ghost use Rattle.names.specs.Stored.NameList.{names_from, start_of, AreAscendingEnds};
 
+use entries::buffer_part::to_u32;
 use entries::give_back;
 use std::alloc::{AllocError, Global};
 use std::marker::Model;
@@ -13,7 +14,7 @@ use std::marker::Model;
 #[derive(Drop)]
 pub struct NameList {
     bytes: Vec<u8>,
-    ends: Vec<usize>,
+    ends: Vec<u32>,
 }
 
 impl Model for NameList {
@@ -63,6 +64,8 @@ impl NameList {
     }
 
     /// Appends a name, which gets the next index.
+    ///
+    /// Errors: an allocation fails, or the names would have 2^32 bytes; the list is then unchanged.
     pub(crate) fn push(&mut self, name: &[u8]) -> Result<(), AllocError>
         ensures ok { OnOk result (self.new ≡ self.old ++ name.now ∷ []) }
         ensures err { OnErr result (self.new ≡ self.old) }
@@ -70,7 +73,7 @@ impl NameList {
         let from = self.bytes.as_slice().len();
         self.bytes.extend_from_slice(name)?;
         let to = self.bytes.as_slice().len();
-        let pushed = self.ends.push(to);
+        let pushed = push_end(&mut self.ends, to);
         if pushed.is_err() {
             self.bytes.truncate(from);
             return Err(AllocError);
@@ -105,23 +108,37 @@ impl NameList {
     }
 }
 
+/// Appends where a name ends.
+fn push_end(ends: &mut Vec<u32>, end: usize) -> Result<(), AllocError>
+    ensures ok { OnOk result (ends.new.items ≡ ends.old.items ++ end ∷ []) }
+    ensures err { OnErr result (ends.new.items ≡ ends.old.items) }
+{
+    let end = to_u32(end)?;
+    ends.push(end)?;
+    Ok(())
+}
+
 /// Returns the name at an index.
-fn part<'a>(bytes: &'a [u8], ends: &[usize], index: usize) -> &'a [u8]
+fn part<'a>(bytes: &'a [u8], ends: &[u32], index: usize) -> &'a [u8]
     requires index { index < length ends.now }
     requires ascending { AreAscendingEnds (length bytes.now) 0 ends.now }
     ensures { result.now ≡ name_at (names_from bytes.now 0 ends.now) index }
 {
     let from = start(ends, index);
     let to = item(ends, index);
-    &bytes[from..to]
+    &bytes[from..to as usize]
 }
 
 /// Returns where the name at an index begins.
-fn start(ends: &[usize], index: usize) -> usize
+fn start(ends: &[u32], index: usize) -> usize
     requires { index ≤ length ends.now }
     ensures { result ≡ start_of 0 ends.now index }
 {
-    if index == 0 { 0 } else { item(ends, index - 1) }
+    if index == 0 {
+        0
+    } else {
+        item(ends, index - 1) as usize
+    }
 }
 
 /// Returns the item at an index.

@@ -85,14 +85,6 @@ active-named S x h = was-named [] S x (active-was 1 S x h)
 
 -- ---- names with kinds
 
-pub kind-has : (names : Declared) (x : Name) → is_some (kind_in names x) ≡ has_name x (declared_names names)
-kind-has [] x = refl
-kind-has (p ∷ names) x = by (name_eq x p.0) (kind-has names x)
-  where
-    by : (b : Bool) → is_some (kind_in names x) ≡ has_name x (declared_names names) → is_some (cond b (Some p.1) (kind_in names x)) ≡ (b || has_name x (declared_names names))
-    by true e = refl
-    by false e = e
-
 -- the kind of a name after another declaration: the kind that it has, or else the new one if it is
 -- declared
 abbrev pub or_kind : Option NameKind → Bool → NameKind → Option NameKind
