@@ -125,9 +125,6 @@ impl Buffer {
         let Some(end) = write_applied(&mut self.symbols, self.len, limit, images, expr) else {
             return self.add_growing(images, expr, limit);
         };
-        if end - self.len > limit {
-            return Ok(false);
-        }
         self.len = end;
         Ok(true)
     }
@@ -150,8 +147,9 @@ impl Buffer {
         let Some(len) = applied_len(self.as_slice(), images, expr, limit) else {
             return Ok(false);
         };
-        make_room(&mut self.symbols, self.len, len + expr.len())?;
-        let Some(end) = write_applied(&mut self.symbols, self.len, len, images, expr) else {
+        let room = len + expr.len();
+        make_room(&mut self.symbols, self.len, room)?;
+        let Some(end) = write_applied(&mut self.symbols, self.len, room, images, expr) else {
             unreachable!();
         };
         self.len = end;

@@ -11,10 +11,9 @@ use crate::copies::{LANES, copy_range, put_symbol};
 use crate::image_ranges::ImageRanges;
 use std::alloc::AllocError;
 
-/// Writes the expression with all images substituted at `at`, and returns where the result ends.
-/// Returns `None` if an image would end more than `limit` symbols after `at`, or if there is no room
-/// after `at` for the result, for as many further symbols as the expression has, and for the
-/// `LANES` symbols that a copy may overwrite.
+/// Writes the expression with all images substituted at `at`, and returns where the result ends, at
+/// most `limit` symbols after `at`. Returns `None` if an image would end where fewer symbols than
+/// the expression has are left of these, or before the last `LANES`, which a copy may overwrite.
 #[inline(always)]
 pub fn write_applied(
     symbols: &mut [u32],
@@ -25,19 +24,21 @@ pub fn write_applied(
 ) -> Option<usize>
     requires within { AreInside at images.now }
     requires inside { at ≤ length symbols.old }
-    requires limit { at + limit ≤ SYMBOLS_LIMIT }
+    requires limit { limit < 2 ^ 63 }
     ensures some { IfSome result
         (IsWritten symbols.old symbols.new at (code_apply (images_at (take at symbols.old) images.now) expr.now)) }
+    ensures within { IfSome result (λ end. end ≤ at + limit) }
     ensures none { IfNone result
-        (LacksRoom (min (length symbols.old) (at + limit + length expr.now + 16)) at (length expr.now)
+        (LacksRoom (min (length symbols.old) (at + limit + 16)) at (length expr.now)
         (code_apply (images_at (take at symbols.old) images.now) expr.now)) }
     ensures kept { take at symbols.new ≡ take at symbols.old }
     ensures count { length symbols.new ≡ length symbols.old }
 {
-    if symbols.len() - at < expr.len() + LANES {
+    let room = (symbols.len() - at).min(limit + LANES);
+    if room < expr.len() + LANES {
         return None;
     }
-    let last = (symbols.len() - expr.len() - LANES).min(at + limit);
+    let last = at + room - expr.len() - LANES;
     let table = images.table();
     let mut end = at;
     for symbol in expr {

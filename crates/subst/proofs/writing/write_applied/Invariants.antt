@@ -5,7 +5,7 @@ use Rattle.subst.proofs.writing.write_applied.Given as goal
 pub record IsFilled (old new : List ℕ) (at : ℕ) (e : List ℕ) (end k n last limit : ℕ) : Type 0 where
   pub written : IsWritten old new at e end
   pub few : end ≤ last + k
-  pub room : last + n + 16 ≡ min (length old) (at + limit + n + 16)
+  pub room : last + n + 16 ≡ min (length old) (at + limit + 16)
   pub count : length new ≡ length old
 
 abbrev pub invariant-loop-symbol : goal.invariant-loop-symbol

@@ -8,14 +8,8 @@ returns-in_default-clause-ok c =
     let same = slice-kept c.self.inside.symbols.len c.self.inside.len _ _ _ _ c.deref_mut.ensures.value c.deref_mut.ensures.len c.write_applied.ensures.count seen c.write_applied.ensures.kept in
     rw same at c.add_growing.ensures.ok
 
-pub returns-then-end-self-clause-ok : goal.returns-then-end-self-clause-ok
-returns-then-end-self-clause-ok c =
-    let seen = ap (take c.self.inside.len) c.deref_mut.ensures.value ∙ c.self.view_is in
-    let w = slice-filled c.self.inside.symbols.len _ c.in-Some.end _ _ _ _ c.args.images.now c.args.expr.now c.deref_mut.ensures.value c.deref_mut.ensures.len c.write_applied.ensures.count seen c.in-Some.ensures.some in
-    (slice-kept c.self.inside.symbols.len c.self.inside.len _ _ _ _ c.deref_mut.ensures.value c.deref_mut.ensures.len c.write_applied.ensures.count seen c.write_applied.ensures.kept, omega (arith, w.1, c.if-end-self.true))
-
 pub returns-clause-ok : goal.returns-clause-ok
 returns-clause-ok c =
     let seen = ap (take c.self.inside.len) c.deref_mut.ensures.value ∙ c.self.view_is in
     let w = slice-filled c.self.inside.symbols.len _ c.in-Some.end _ _ _ _ c.args.images.now c.args.expr.now c.deref_mut.ensures.value c.deref_mut.ensures.len c.write_applied.ensures.count seen c.in-Some.ensures.some in
-    (w.0, omega (arith, w.1, c.if-end-self.false))
+    (w.0, omega (arith, w.1, c.in-Some.ensures.within))
