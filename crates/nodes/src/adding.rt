@@ -102,6 +102,7 @@ impl<G: Gate, K: Keep<Carried>> Desk<G, K> {
     {
         for yielded in 0..yields {
             if yielded % YIELDS_PER_QUERY == 0 {
+                self.pass_switch(rt);
                 let known = self.outcome(rt, k, entry)?;
                 if known.is_some() {
                     return Ok(known);
@@ -110,6 +111,12 @@ impl<G: Gate, K: Keep<Carried>> Desk<G, K> {
             thread::yield_now();
         }
         self.outcome(rt, k, entry)
+    }
+
+    /// Waits until nobody holds the switch. So no turn passes while a node stores an entry, which may
+    /// take longer than all turns of a try.
+    fn pass_switch<R: Wait>(&self, rt: &R) {
+        let _switch = self.shared.switch.lock(rt);
     }
 
     /// Returns the outcome of the entry at node `k`, if it is known there.
