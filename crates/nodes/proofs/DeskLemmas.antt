@@ -1,5 +1,5 @@
 -- Calls at a desk, from the calls under the locks.
-use Rattle.nodes.proofs.Words.{◌≡◌, ℕ, Bool, true, false, List, [], ◌∷◌, ◌++◌, Option, Some, None, Result, Ok, Err, inl, inr, refl, sym, ap, ◌∙◌, subst, IfErr, IsErrAnd, Event, Deliver, StepFault, SwitchView, Plays, Carried, carried_size, DeliversAll}
+use Rattle.nodes.proofs.Words.{◌≡◌, ℕ, Bool, true, false, List, [], ◌∷◌, ◌++◌, Option, Some, None, Result, Ok, Err, inl, inr, refl, sym, ap, ◌∙◌, subst, IfErr, IsErrAnd, Event, StepFault, SwitchView, Plays, Carried, carried_size}
 use Rattle.std.specs.Prelude.{◌⊎◌, OnOk}
 use Rattle.library.specs.declared.entry.Entry.{Entry}
 use Rattle.net.specs.declared.event.Event.TheVariants.{Begin, Offer}

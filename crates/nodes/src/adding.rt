@@ -116,10 +116,12 @@ impl<J: Naming, G: Gate, K: Keep<Carried>> Desk<J, G, K> {
         ensures nodes { self.new.node_count ≡ self.old.node_count }
         ensures refused { IfErr result (IsAddFault self.old.seen self.new.seen k entry.now) }
     {
-        match self.submit(rt, k, entry.copy()?) {
-            Err(StepFault::Busy) => Ok(()),
-            answer => answer,
+        let copy = entry.copy()?;
+        let answer = self.submit(rt, k, copy);
+        if answer == Err(StepFault::Busy) {
+            return Ok(());
         }
+        answer
     }
 
     /// Returns whether node `k` leads. The answer is only a hint when to begin a ballot.
