@@ -1,0 +1,1 @@
+int cluster_unused;

@@ -1,0 +1,5 @@
+pub mod Words
+pub mod Cell
+pub mod Cells
+pub mod Belongs
+pub mod Outcome

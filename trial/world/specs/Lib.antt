@@ -1,0 +1,3 @@
+pub mod Words
+pub mod Carried
+pub mod WorldView
