@@ -82,7 +82,7 @@ fn push_good_line<V: Value>(
         text,
         bytes,
         stored.promise(),
-        accepted_count(stored),
+        stored.accepted_count(),
         b"good",
     )
 }
@@ -163,27 +163,4 @@ fn push_damage(text: &mut Vec<u8>, path: &str, damage: &Option<String>) -> Resul
     text.extend_from_slice(b": ")?;
     text.extend_from_slice(damage.as_bytes())?;
     text.extend_from_slice(b"\n")
-}
-
-/// Returns at how many slots an entry is accepted.
-fn accepted_count<V: Value>(stored: &Record<V>) -> u32
-    ensures { result ≡ count_by is_some stored.now.kept.accepted }
-{
-    let mut count = 0u32;
-    for slot in 0..stored.top() {
-        if has_entry(stored, slot) {
-            count += 1;
-        }
-    }
-    count
-}
-
-/// Returns whether an entry is accepted at a slot.
-fn has_entry<V: Value>(stored: &Record<V>, slot: u32) -> bool
-    ensures { result ≡ is_some (entry_at stored.now.kept.accepted slot) }
-{
-    match stored.get(slot) {
-        Some(_) => true,
-        None => false,
-    }
 }

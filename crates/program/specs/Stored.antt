@@ -9,4 +9,4 @@ use Rattle.world.specs.declared.health.NodeStatus.{NodeStatus}
 abbrev pub store_text : ℕ → NodeStatus → Option (List ℕ) → List ℕ
 store_text bytes status (Some damage) = damaged_line bytes damage
 store_text bytes status None =
-    kept_line bytes status.state.promise status.state.top (if status.is_down then codes "down" else codes "good")
+    kept_line bytes status.state.promise status.state.accepted (if status.is_down then codes "down" else codes "good")

@@ -86,8 +86,8 @@ impl<J: Naming, R: Wait, K: Keep<Carried>, B: FileSizes, E: Write> AnsweringDesk
         }
     }
 
-    /// Appends the bytes of a node's files, its promise, one above the greatest slot at which it
-    /// accepted or learned an entry, and `good` or `down`; of a damaged node why it is.
+    /// Appends the bytes of a node's files, its promise, at how many slots it accepted an entry,
+    /// and `good` or `down`; of a damaged node why it is.
     pub fn push_store(&mut self, node: u8, text: &mut Vec<u8>) -> Result<(), Fault>
         ensures { OnOk result ((status : NodeStatus) × (bytes : ℕ) × IsNodeStatus self.new.desk.seen node status
             × (text.new.items ≡ text.old.items ++ store_text bytes status
@@ -211,7 +211,13 @@ fn push_store_line(
         Some(damage) => push_damaged_line(text, bytes, damage),
         None => {
             let state = state_word(status.is_down);
-            push_kept_line(text, bytes, status.state.promise, status.state.top, state)
+            push_kept_line(
+                text,
+                bytes,
+                status.state.promise,
+                status.state.accepted,
+                state,
+            )
         }
     }
 }

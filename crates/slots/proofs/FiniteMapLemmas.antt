@@ -1,5 +1,5 @@
--- The finite map of a list of options: its entries, its front and its top after each change.
-use Rattle.slots.proofs.Words.{◌≡◌, ℕ, zero, suc, ◌+◌, ◌<◌, ◌≤◌, max, List, [], ◌∷◌, ◌++◌, length, get_or, set, drop, replicate, Option, Some, None, refl, ap, ◌∙◌, arith, le_of_suc-le-suc, sym, entry_at, put_at, with_head, trimmed, entries_to_gap, front_of, top_of}
+-- The finite map of a list of options: its entries, its front, its top and its number of entries after each change.
+use Rattle.slots.proofs.Words.{◌≡◌, ℕ, zero, suc, ◌+◌, ◌<◌, ◌≤◌, max, List, [], ◌∷◌, ◌++◌, length, get_or, set, drop, replicate, Option, Some, None, refl, ap, ◌∙◌, arith, le_of_suc-le-suc, sym, entry_at, put_at, with_head, trimmed, entries_to_gap, front_of, top_of, added_to, cond, count_by, is_some, sum_by-cons, sum_by-set}
 
 -- Putting an entry.
 
@@ -149,3 +149,35 @@ front_of-put_at-trimmed {T} xs s v here =
     ∙ front_of-put_at-front (trimmed xs) v
     ∙ ap (λ (i : ℕ). suc i + front_of (drop (suc i) (trimmed xs))) (sym at)
     ∙ ap (λ (n : ℕ). suc s + n) (front_of-drop-trimmed xs (suc s))
+
+-- The number of entries.
+
+-- an entry counts 1
+abbrev one_if : {T : Type 0} → Option T → ℕ
+one_if x = cond (is_some x) 1 0
+
+count-cons : {T : Type 0} (x : Option T) (xs : List (Option T)) → count_by is_some (x ∷ xs) ≡ one_if x + count_by is_some xs
+count-cons x xs = sum_by-cons one_if x xs
+
+count-head : {T : Type 0} (x : Option T) (ys : List (Option T)) → count_by is_some (with_head x ys) ≡ count_by is_some (x ∷ ys)
+count-head None [] = refl
+count-head None (y ∷ ys) = refl
+count-head (Some x) ys = refl
+
+pub entry_count-trimmed : {T : Type 0} (xs : List (Option T)) → count_by is_some (trimmed xs) ≡ count_by is_some xs
+entry_count-trimmed [] = refl
+entry_count-trimmed (x ∷ xs) =
+    count-head x (trimmed xs)
+    ∙ count-cons x (trimmed xs)
+    ∙ ap (λ (n : ℕ). one_if x + n) (entry_count-trimmed xs)
+    ∙ sym (count-cons x xs)
+
+added-one : {T : Type 0} (x : Option T) → added_to x + one_if x ≡ 1
+added-one None = refl
+added-one (Some x) = refl
+
+pub entry_count-set : {T : Type 0} (xs : List (Option T)) (s : ℕ) (v : T) → s < length xs → count_by is_some (set xs s (Some v)) ≡ count_by is_some xs + added_to (entry_at xs s)
+entry_count-set {T} xs s v h =
+    let here : added_to (entry_at xs s) ≡ added_to (get_or xs s None) = ap (λ (x : Option T). added_to x) (entry_at-get_or xs s None h) in
+    let all : count_by is_some (set xs s (Some v)) + one_if (get_or xs s None) ≡ count_by is_some xs + 1 = sum_by-set one_if xs s (Some v) None h in
+    omega (arith, here, all, added-one (get_or xs s None))

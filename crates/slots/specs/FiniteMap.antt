@@ -33,6 +33,11 @@ front_of xs = length (entries_to_gap xs)
 abbrev pub top_of : {T : Type 0} → List (Option T) → ℕ
 top_of xs = length xs
 
+-- how many entries a map gains by an entry that is put where this was
+abbrev pub added_to : {T : Type 0} → Option T → ℕ
+added_to None = 1
+added_to (Some x) = 0
+
 -- a slot put before a trimmed list: the empty list if the slot and the list are empty. It removes
 -- no slot of the list.
 abbrev pub with_head : {T : Type 0} → Option T → List (Option T) → List (Option T)

@@ -1,7 +1,7 @@
 //! The finite map from slots to entries.
 ghost use Rattle.std.specs.Prelude.{◌≡◌, ◌<◌, ◌≤◌, ◌+◌, ◌↔◌, [], drop, max, IsTrue, IsOk, OnOk};
-ghost use Rattle.std.specs.Prelude.{OnErr, Some, None, length, MatchOption};
-ghost use Rattle.slots.specs.FiniteMap.{entry_at, put_at, front_of, top_of};
+ghost use Rattle.std.specs.Prelude.{OnErr, Some, None, count_by, is_some, length, MatchOption};
+ghost use Rattle.slots.specs.FiniteMap.{added_to, entry_at, put_at, front_of, top_of};
 
 use crate::page::PAGE_SLOTS;
 use crate::pages::Pages;
@@ -19,6 +19,8 @@ pub struct Slots<T> {
     front: u32,
     /// One above the greatest slot with an entry, or 0 if there are no entries.
     top: u32,
+    /// How many slots have an entry.
+    count: u32,
 }
 
 impl<T> Model for Slots<T> {
@@ -30,7 +32,7 @@ impl<T> Model for Slots<T> {
 
     ghost view = { λ s. record { entries = trimmed s.pages; capacity = length s.pages } };
 
-    ghost invariant = { λ s. AreSlots s.pages s.front s.top };
+    ghost invariant = { λ s. AreSlots s.pages s.front s.top s.count };
 }
 
 impl<T: Drop> Slots<T> {
@@ -43,6 +45,7 @@ impl<T: Drop> Slots<T> {
             pages: Pages::new(alloc),
             front: 0,
             top: 0,
+            count: 0,
         }
     }
 
@@ -89,6 +92,7 @@ impl<T: Drop> Slots<T> {
         let before = self.pages.put(slot as usize, entry);
         self.front = first_empty_from(&self.pages, self.front);
         self.top = top_with(self.top, slot);
+        self.count = count_with(self.count, &before);
         before
     }
 
@@ -140,6 +144,13 @@ impl<T: Drop> Slots<T> {
         self.top
     }
 
+    /// Returns how many slots have an entry.
+    pub fn count(&self) -> u32
+        ensures { result ≡ count_by is_some self.now.entries }
+    {
+        self.count
+    }
+
     /// Removes all entries.
     pub fn clear(&mut self)
         ensures entries { self.new.entries ≡ [] }
@@ -147,6 +158,7 @@ impl<T: Drop> Slots<T> {
         self.pages.clear();
         self.front = 0;
         self.top = 0;
+        self.count = 0;
     }
 }
 
@@ -171,4 +183,12 @@ fn top_with(top: u32, slot: u32) -> u32
     ensures { result ≡ max top (slot + 1) }
 {
     if top <= slot { slot + 1 } else { top }
+}
+
+/// Returns the number of entries after one is put where `before` was.
+fn count_with<T>(count: u32, before: &Option<T>) -> u32
+    requires { count ≤ SLOTS }
+    ensures { result ≡ count + added_to before.now }
+{
+    if before.is_none() { count + 1 } else { count }
 }

@@ -1,5 +1,5 @@
 //! The kept part of a node, which survives a restart.
-ghost use Rattle.std.specs.Prelude.{◌≡◌, ◌<◌, ◌≤◌, OnOk, Some, None, MatchOption, length};
+ghost use Rattle.std.specs.Prelude.{◌≡◌, ◌<◌, ◌≤◌, OnOk, Some, None, MatchOption, count_by, is_some, length};
 ghost use Rattle.slots.specs.declared.slots.TheConstants.{SLOTS};
 ghost use Rattle.slots.specs.FiniteMap.{entry_at, top_of};
 
@@ -76,6 +76,13 @@ impl<V: Drop> Record<V> {
         ensures within { result ≤ SLOTS }
     {
         self.accepted.top()
+    }
+
+    /// Returns at how many slots an entry is accepted.
+    pub fn accepted_count(&self) -> u32
+        ensures { result ≡ count_by is_some self.now.kept.accepted }
+    {
+        self.accepted.count()
     }
 
     /// Reserves capacity for an entry at a slot. The kept part is unchanged.

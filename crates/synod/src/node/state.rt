@@ -18,6 +18,8 @@ pub struct NodeState {
     pub log_len: u32,
     /// One above the greatest slot at which it accepted or learned a value; 0 if there are none.
     pub top: u32,
+    /// At how many slots it accepted a value.
+    pub accepted: u32,
     /// The number of offered values that wait until it leads.
     pub waiting: usize,
 }
@@ -34,6 +36,7 @@ impl<V: Value> NodeCore<V> {
             promise: self.kept_part.promise(),
             log_len: self.learner.first_gap(),
             top: cmp::max(self.kept_part.top(), self.learner.top()),
+            accepted: self.kept_part.accepted_count(),
             waiting: self.proposer.waiting().len(),
         }
     }

@@ -1,5 +1,5 @@
-use Rattle.slots.proofs.Words.{◌∙◌, ◌+◌, ℕ, max, drop, sym, ap, arith, List, Option, Some, length, length-set, SlotsView, entry_at, put_at, trimmed, front_of, top_of}
-use Rattle.slots.proofs.FiniteMapLemmas.{trimmed-set, top_of-put_at, front_of-le, front_of-set, entry_at-trimmed, top_of-trimmed-le}
+use Rattle.slots.proofs.Words.{◌∙◌, ◌+◌, ℕ, max, drop, sym, ap, arith, List, Option, Some, length, length-set, SlotsView, entry_at, put_at, trimmed, front_of, top_of, added_to, count_by, count_by-le-length, is_some}
+use Rattle.slots.proofs.FiniteMapLemmas.{trimmed-set, top_of-put_at, front_of-le, front_of-set, entry_at-trimmed, top_of-trimmed-le, entry_count-set}
 use Rattle.slots.proofs.slots.Slots.put.Goals as goal
 
 pub first_empty_from-self-inside-requires-clause-from : goal.first_empty_from-self-inside-requires-clause-from
@@ -23,6 +23,11 @@ invariant_of-self g c =
           ∙ sym (top_of-put_at (trimmed c.self.inside.pages) c.args.slot c.args.entry)
           ∙ ap (λ (slots : List (Option g.row.T.Denot)). top_of slots) (sym (trimmed-set c.self.inside.pages c.args.slot c.args.entry (omega (arith, room, c.requires))))
           ∙ ap (λ (slots : List (Option g.row.T.Denot)). top_of (trimmed slots)) (sym c.put-before.ensures.put);
+      count_is = c.count_with-self-inside.ensures
+          ∙ ap (λ (i : ℕ). i + added_to c.put-before.result) c.self.invariant.count_is
+          ∙ ap (λ (x : Option g.row.T.Denot). count_by is_some c.self.inside.pages + added_to x) c.put-before.ensures.before
+          ∙ sym (entry_count-set c.self.inside.pages c.args.slot c.args.entry (omega (arith, room, c.requires)))
+          ∙ ap (λ (slots : List (Option g.row.T.Denot)). count_by is_some slots) (sym c.put-before.ensures.put);
     }
 
 pub returns-clause-entries : goal.returns-clause-entries
@@ -42,3 +47,6 @@ pub returns-clause-within : goal.returns-clause-within
 returns-clause-within g c =
     let same = ap (λ (slots : List (Option g.row.T.Denot)). length slots) c.put-before.ensures.put ∙ length-set c.self.inside.pages c.args.slot (Some c.args.entry) in
     omega (arith, same, c.self.invariant.within, top_of-trimmed-le c.put-before.new.self)
+
+pub count_with-self-inside-requires : goal.count_with-self-inside-requires
+count_with-self-inside-requires g c = omega (arith, c.self.invariant.within, c.self.invariant.count_is, count_by-le-length is_some c.self.inside.pages)

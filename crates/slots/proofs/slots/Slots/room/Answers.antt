@@ -1,5 +1,5 @@
-use Rattle.slots.proofs.Words.{◌≡◌, ◌∙◌, ◌*◌, ◌-◌, ◌/◌, ◌+◌, sym, ap, arith, replicate, length, length-append, List, Option, None, length-replicate, trimmed, front_of, top_of}
-use Rattle.slots.proofs.FiniteMapLemmas.{trimmed-append-gaps, front_of-trimmed}
+use Rattle.slots.proofs.Words.{◌≡◌, ◌∙◌, ◌*◌, ◌-◌, ◌/◌, ◌+◌, sym, ap, arith, replicate, length, length-append, List, Option, None, length-replicate, trimmed, front_of, top_of, count_by, is_some}
+use Rattle.slots.proofs.FiniteMapLemmas.{trimmed-append-gaps, front_of-trimmed, entry_count-trimmed}
 use Rattle.slots.proofs.slots.Slots.room.Goals as goal
 
 pub invariant_of-self-2 : goal.invariant_of-self-2
@@ -15,6 +15,7 @@ invariant_of-self-2 g c =
       within = omega (arith, more, page, c.count-old_count.ensures, c.if-old_count-page_count.false, c.requires);
       front_is = c.self.invariant.front_is ∙ sym (front_of-trimmed before) ∙ ap (λ (slots : Slots). front_of slots) (sym same) ∙ front_of-trimmed c.add.new.self;
       top_is = c.self.invariant.top_is ∙ ap (λ (slots : Slots). top_of slots) (sym same);
+      count_is = c.self.invariant.count_is ∙ sym (entry_count-trimmed before) ∙ ap (λ (slots : Slots). count_by is_some slots) (sym same) ∙ entry_count-trimmed c.add.new.self;
     }
 
 pub returns-clause-entries : goal.returns-clause-entries
