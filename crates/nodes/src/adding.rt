@@ -110,7 +110,6 @@ impl<J: Naming, G: Gate, K: Keep<Carried>> Desk<J, G, K> {
     }
 
     /// Submits a copy of the entry at node `k`. It has no effect if too many values wait there.
-    #[tactic(auto, using(crate::proofs::DeskLemmas::add_offer))]
     fn submit_again<R: Wait>(&mut self, rt: &R, k: u8, entry: &Entry) -> Result<(), StepFault>
         ensures seen { IsPrefixOf self.old.seen self.new.seen }
         ensures nodes { self.new.node_count ≡ self.old.node_count }
@@ -151,6 +150,7 @@ impl<J: Naming, G: Gate, K: Keep<Carried>> Desk<J, G, K> {
     {
         for yielded in 0..yields {
             if yielded % YIELDS_PER_QUERY == 0 {
+                self.pass_switch(rt);
                 let known = self.outcome(rt, k, entry)?;
                 if known.is_some() {
                     return Ok(known);
@@ -159,6 +159,12 @@ impl<J: Naming, G: Gate, K: Keep<Carried>> Desk<J, G, K> {
             thread::yield_now();
         }
         self.outcome(rt, k, entry)
+    }
+
+    /// Waits until nobody holds the switch. So no turn passes while a node stores an entry, which may
+    /// take longer than all turns of a try.
+    fn pass_switch<R: Wait>(&self, rt: &R) {
+        let _switch = self.shared.switch.lock(rt);
     }
 
     /// Returns the outcome of the entry at node `k`, if it is known there.

@@ -102,7 +102,7 @@ impl<J: Naming, G: Gate, K: Keep<Carried>> Desk<J, G, K> {
     }
 
     /// Returns the state of each node and of its cell.
-    #[tactic(auto, using(crate::proofs::PrefixLemmas::prefix_trans, crate::proofs::QuestionsLemmas::more_statuses))]
+    #[tactic(auto, using(crate::proofs::PrefixLemmas::prefix_trans))]
     fn node_statuses<R: Wait>(&mut self, rt: &R) -> Result<Vec<NodeStatus>, StepFault>
         ensures seen { IsPrefixOf self.old.seen self.new.seen }
         ensures nodes { self.new.node_count ≡ self.old.node_count }

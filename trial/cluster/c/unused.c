@@ -1,1 +1,0 @@
-int cluster_unused;

@@ -1,8 +1,0 @@
-use mm_lex::Word;
-
-/// An assertion.
-#[derive(Drop)]
-pub struct Listed {
-    pub label: Word,
-    pub proved: bool,
-}
