@@ -1,13 +1,13 @@
 -- The account of a lock once a moment is recorded.
-use Rattle.std.proofs.Common.{◌≡◌, ℕ, ◌+◌, ◌<◌, Bool, true, List, [], ◌∷◌, ◌++◌, refl, ap, sym, ◌∙◌, subst, arith}
+use Rattle.std.proofs.Common.{◌≡◌, ℕ, ◌+◌, Bool, true, List, ap, sym, ◌∙◌, arith}
 use Rattle.logbook.specs.Pages.{Book, Named}
 use Rattle.net.specs.Agree.{IsPrefixOf}
 use Rattle.nodes.specs.declared.moment.Moment.{Moment}
 use Rattle.nodes.specs.Moments.{lock_of, count_of}
 use Rattle.nodes.specs.Runs.{IsRun}
 use Rattle.nodes.specs.Book.{AddsTo}
-use Rattle.nodes.specs.Account.{AccountView, IsAccount, Records}
-use Rattle.nodes.proofs.PrefixLemmas.{prefix_trans, prefix_more}
+use Rattle.nodes.specs.Account.{IsAccount, Records}
+use Rattle.nodes.proofs.PrefixLemmas.{prefix_trans}
 use Rattle.nodes.proofs.MomentLemmas.{count-own}
 
 module _ (book : Book) (word : Named) (count : ℕ) (belongs : Bool) (old seen : List Moment) (m : Moment) (new : List Moment) (is : IsAccount book word count belongs old) (after : IsPrefixOf old seen) (adds : AddsTo seen word.key count m new) where

@@ -1,5 +1,5 @@
 -- The exchange that adds a moment keeps the rule of the book.
-use Rattle.std.proofs.Common.{◌≡◌, ◌≢◌, ℕ, zero, suc, ◌+◌, ◌<◌, ◌≤◌, ◌==◌, Bool, true, false, List, [], ◌∷◌, ◌++◌, length, Option, Some, None, slice_index_or, slice_set, replicate, refl, ap, sym, ◌∙◌, subst, arith, inl, get_or-set_other, if◌then◌else◌}
+use Rattle.std.proofs.Common.{◌≡◌, ◌≢◌, ℕ, ◌+◌, ◌<◌, ◌==◌, Bool, true, false, List, [], ◌∷◌, ◌++◌, length, None, slice_set, replicate, refl, ap, sym, ◌∙◌, subst, arith, inl, get_or-set_other}
 use Rattle.std.proofs.lemmas.Grind.{get_or-set_at}
 use Rattle.std.proofs.lemmas.List.{append-nil, get_or-replicate, length-replicate, length-set}
 use Rattle.std.proofs.lemmas.Bool.Decides.{nat_tests}
@@ -10,7 +10,7 @@ use Rattle.nodes.specs.declared.moment.Moment.{Moment}
 use Rattle.nodes.specs.Words.{Carried, SwitchView}
 use Rattle.nodes.specs.Moments.{lock_of, count_of, lock_count, IsSwitchAt}
 use Rattle.nodes.specs.Runs.{IsRun}
-use Rattle.nodes.specs.Book.{IsKept, AddsTo, Adds, MayAdd}
+use Rattle.nodes.specs.Book.{IsKept, Adds, MayAdd}
 use Rattle.nodes.proofs.MomentLemmas.{count-own, count-other}
 
 abbrev pub shown : List Moment → List Moment

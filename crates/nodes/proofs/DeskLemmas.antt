@@ -1,16 +1,16 @@
 -- Calls at a desk, from the calls under the locks.
-use Rattle.nodes.proofs.Words.{◌≡◌, ℕ, Bool, true, false, List, [], ◌∷◌, ◌++◌, Option, Some, None, Result, Ok, Err, inl, inr, refl, sym, ap, ◌∙◌, subst, IfErr, IsErrAnd, Event, StepFault, SwitchView, Plays, Carried, carried_size}
-use Rattle.std.specs.Prelude.{◌⊎◌, OnOk}
+use Rattle.nodes.proofs.Words.{◌≡◌, ℕ, Bool, true, false, List, Some, None, Result, Ok, Err, inl, inr, sym, ◌∙◌, subst, IfErr, IsErrAnd, Event, StepFault, Carried}
+use Rattle.std.specs.Prelude.{◌⊎◌}
 use Rattle.library.specs.declared.entry.Entry.{Entry}
 use Rattle.net.specs.declared.event.Event.TheVariants.{Begin, Offer}
-use Rattle.net.specs.declared.fault.StepFault.TheVariants.{Apart, Stopped}
+use Rattle.net.specs.declared.fault.StepFault.TheVariants.{Apart}
 use Rattle.nodes.specs.Words.{IsPrefixOf}
 use Rattle.nodes.specs.declared.moment.Moment.{Moment}
 use Rattle.nodes.specs.declared.moment.Moment.TheVariants.{Ended}
 use Rattle.nodes.specs.Moments.{IsStoppedAt}
 use Rattle.nodes.specs.Runs.{IsRun}
 use Rattle.nodes.specs.Adding.{IsAddFault}
-use Rattle.nodes.specs.Desk.{Happens, IsPlayFault, IsRefusedIn, StaysStopped}
+use Rattle.nodes.specs.Desk.{Happens, IsPlayFault, IsRefusedIn}
 use Rattle.nodes.proofs.PrefixLemmas.{prefix_self, prefix_trans}
 use Rattle.nodes.proofs.MomentLemmas.{stopped_stays}
 
@@ -19,14 +19,6 @@ use Rattle.nodes.proofs.MomentLemmas.{stopped_stays}
 pub handed : {A : Type 0} (P : StepFault → Type 0) (r : Result A StepFault) (fault : StepFault) → IsErrAnd r (λ f. f ≡ fault) → P fault → IfErr r P
 handed P (Err f) fault same p = subst P (sym same) p
 handed P (Ok x) fault same p = elim same [ ]
-
-pub handed_ok : {A : Type 0} (P : Type 0) (r : Result A StepFault) (fault : StepFault) → IsErrAnd r (λ f. f ≡ fault) → OnOk r P
-handed_ok P (Err f) fault same = tt
-handed_ok P (Ok x) fault same = elim same [ ]
-
-pub handed_is : {A : Type 0} (r : Result A StepFault) (fault : StepFault) → IsErrAnd r (λ f. f ≡ fault) → r ≡ Err fault
-handed_is {A} (Err f) fault same = ap (λ (x : StepFault). let a : Result A StepFault = Err x in a) same
-handed_is (Ok x) fault same = elim same [ ]
 
 -- What happened in a part of a call happened in the call.
 
@@ -50,11 +42,7 @@ happens_later old new last e pre h = record { at = h.at; later = h.later; earlie
 pub refused_between : (first old new last : List Moment) (e : Event Carried) (fault : StepFault) → IsPrefixOf first old → IsPrefixOf new last → IsRefusedIn old new e fault → IsRefusedIn first last e fault
 refused_between first old new last e fault pre post h = record { at = h.at; later = prefix_trans first old h.at pre h.later; earlier = prefix_trans h.at new last h.earlier post; switch = h.switch; is_switch = h.is_switch; left = h.left; plays = h.plays }
 
--- what holds of an Ok still holds, and of an error
-pub on_ok : {A : Type 0} (P Q : Type 0) (r : Result A StepFault) → (P → Q) → OnOk r P → OnOk r Q
-on_ok P Q (Ok a) more p = more p
-on_ok P Q (Err e) more p = tt
-
+-- what holds of an error still holds
 pub on_err : {A : Type 0} (P Q : StepFault → Type 0) (r : Result A StepFault) → ((f : StepFault) → P f → Q f) → IfErr r P → IfErr r Q
 on_err P Q (Ok a) more p = tt
 on_err P Q (Err e) more p = more e p

@@ -1,5 +1,5 @@
 -- The switch after an event goes on from the switch before it.
-use Rattle.std.proofs.Common.{◌≡◌, ◌≢◌, ℕ, ◌+◌, ◌<◌, ◌≤◌, ◌==◌, nat_lt, Bool, true, false, List, [], ◌∷◌, ◌++◌, length, Option, Some, None, Result, Ok, Err, slice_get, slice_set, refl, ap, sym, ◌∙◌, subst, arith, append-nil, append_assoc, if◌then◌else◌, inl, inr}
+use Rattle.std.proofs.Common.{◌≡◌, ℕ, ◌+◌, ◌==◌, nat_lt, Bool, true, false, List, [], ◌∷◌, ◌++◌, length, Option, Some, None, Result, Ok, Err, slice_get, slice_set, refl, ap, sym, ◌∙◌, subst, arith, append_assoc, if◌then◌else◌, inl, inr}
 use Rattle.std.proofs.lemmas.Bool.Decides.{nat_tests}
 use Rattle.std.specs.Option.{option_map}
 use Rattle.std.specs.Prelude.{OnOk}
@@ -11,18 +11,17 @@ use Rattle.synod.specs.declared.change.Change.{Change}
 use Rattle.synod.specs.declared.packet.Packet.{Packet}
 use Rattle.synod.specs.declared.refusal.Refusal.{Refusal}
 use Rattle.net.specs.Agree.{IsPrefixOf}
-use Rattle.net.specs.Agreement.{IsMoment}
-use Rattle.net.specs.History.{History, first_world, world_of as world_of_taken}
+use Rattle.net.specs.History.{History, first_world}
 use Rattle.net.specs.KeptPart.{node_of, change_of, AreOfOthers}
 use Rattle.net.specs.Resumed.{IsIdle}
-use Rattle.net.specs.World.{World, resumed, at_node, delivered, event_result, event_result_without_limit, events_result, log}
+use Rattle.net.specs.World.{World, resumed, at_node, delivered, event_result, event_result_without_limit, events_result}
 use Rattle.net.specs.declared.event.Event.{Event}
 use Rattle.net.specs.declared.event.Event.TheVariants.{Begin, Deliver, Offer, Restart}
 use Rattle.net.specs.declared.fault.StepFault.{StepFault}
 use Rattle.net.specs.declared.fault.StepFault.TheVariants.{Device, Down, EventsSpent}
 use Rattle.net.proofs.BeginsAgainLemmas.{again, again_is, again_log}
 use Rattle.switch.specs.NodeStore.{Status, up, down, unloaded}
-use Rattle.switch.specs.Switch.{AreStores, ViewFitsNode, IsEffectAtDownNode, IsEffectOfRecovery, IsEffectUnlessDown, IsOutcomeAt, IsRecoveryOutcome, IsReloadOutcome, Plays, Refuses, StoreView, SwitchView, UnloadedAreIdle, change_of_pending, history_of, is_down, is_down_at, is_down_view, is_unloaded, is_unloaded_at, is_unloaded_view, pending_events, with_event, with_store, world_of}
+use Rattle.switch.specs.Switch.{AreStores, ViewFitsNode, IsEffectAtDownNode, IsEffectOfRecovery, IsEffectUnlessDown, IsOutcomeAt, IsRecoveryOutcome, IsReloadOutcome, Plays, Refuses, StoreView, SwitchView, UnloadedAreIdle, history_of, is_down, is_down_at, is_down_view, is_unloaded, is_unloaded_at, is_unloaded_view, pending_events, with_event, with_store}
 use Rattle.nodes.specs.Runs.{GoesOnFrom}
 use Rattle.nodes.specs.Desk.{Stands}
 use Rattle.nodes.proofs.PrefixLemmas.{prefix_self, prefix_trans}

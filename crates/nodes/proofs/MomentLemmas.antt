@@ -1,9 +1,8 @@
 -- What a history says, with more moments: the last moment under a lock stays the last one while none
 -- is recorded under it.
-use Rattle.std.proofs.Common.{◌≡◌, ◌≢◌, ℕ, zero, suc, ◌+◌, ◌==◌, Bool, true, false, List, [], ◌∷◌, ◌++◌, Option, Some, None, refl, ap, sym, ◌∙◌, arith, if◌then◌else◌}
+use Rattle.std.proofs.Common.{◌≡◌, ◌≢◌, ℕ, ◌+◌, ◌==◌, Bool, true, false, List, [], ◌∷◌, ◌++◌, Option, Some, None, refl, ap, sym, ◌∙◌, arith, if◌then◌else◌}
 use Rattle.std.proofs.lemmas.Bool.Decides.{nat_tests}
 use Rattle.net.specs.Agree.{IsPrefixOf}
-use Rattle.nodes.specs.Words.{Cell, SwitchView, Carried}
 use Rattle.nodes.specs.declared.moment.Moment.{Moment}
 use Rattle.nodes.specs.declared.moment.Moment.TheVariants.{SwitchIs, CellIs, Ended}
 use Rattle.nodes.specs.Moments.{lock_of, count_of, last_from, last_at, IsStoppedAt}

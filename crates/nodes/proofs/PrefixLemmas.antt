@@ -1,5 +1,5 @@
 -- Prefixes of one list.
-use Rattle.std.proofs.Common.{◌≡◌, ℕ, zero, suc, List, [], ◌∷◌, ◌++◌, Some, slice_get, refl, ap, sym, ◌∙◌, append-nil, append_assoc, inl, inr}
+use Rattle.std.proofs.Common.{◌≡◌, List, [], ◌∷◌, ◌++◌, refl, ap, sym, ◌∙◌, append-nil, append_assoc, inl, inr}
 use Rattle.std.specs.Prelude.{◌⊎◌}
 use Rattle.net.specs.Agree.{IsPrefixOf}
 
@@ -8,10 +8,6 @@ prefix_self xs = ([], append-nil xs)
 
 pub prefix_trans : {A : Type 0} (xs ys zs : List A) → IsPrefixOf xs ys → IsPrefixOf ys zs → IsPrefixOf xs zs
 prefix_trans xs ys zs p q = (p.0 ++ q.0, sym (append_assoc xs p.0 q.0) ∙ (ap (λ w. w ++ q.0) p.1 ∙ q.1))
-
--- a prefix stays one when the list is longer
-pub prefix_more : {A : Type 0} (xs ys : List A) (y : A) → IsPrefixOf xs ys → IsPrefixOf xs (ys ++ y ∷ [])
-prefix_more xs ys y p = prefix_trans xs ys (ys ++ y ∷ []) p (y ∷ [], refl)
 
 -- what begins an empty list is empty
 front_none : {A : Type 0} (xs rest : List A) → xs ++ rest ≡ [] → xs ≡ []
@@ -31,10 +27,3 @@ prefix_snoc {A} (x ∷ xs) (z ∷ ys) y p =
       | inl r ↦ inl (r.0, cc (head, r.1))
       | inr e ↦ inr (cc (head, e))
     ]
-
--- what stands in a prefix stands in the list, at the same place
-pub prefix_get : {A : Type 0} (xs ys : List A) (k : ℕ) (x : A) → IsPrefixOf xs ys → slice_get xs k ≡ Some x → slice_get ys k ≡ Some x
-prefix_get [] ys k x p h = cc
-prefix_get (y ∷ xs) [] k x p h = let no = p.1 in cc
-prefix_get (y ∷ xs) (z ∷ ys) zero x p h = cc (p.1, h)
-prefix_get (y ∷ xs) (z ∷ ys) (suc k) x p h = prefix_get xs ys k x (p.0, cc (p.1)) h

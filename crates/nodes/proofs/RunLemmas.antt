@@ -1,13 +1,13 @@
 -- A history with one more moment is a history.
-use Rattle.std.proofs.Common.{◌≡◌, ◌≢◌, ℕ, ◌+◌, ◌==◌, Bool, true, false, List, [], ◌∷◌, ◌++◌, Option, Some, None, slice_get, refl, ap, sym, ◌∙◌, subst, arith, inl, inr}
+use Rattle.std.proofs.Common.{◌≡◌, ◌≢◌, ℕ, ◌+◌, ◌==◌, Bool, true, false, List, [], ◌∷◌, ◌++◌, Option, Some, slice_get, refl, ap, sym, ◌∙◌, subst, arith, inl, inr}
 use Rattle.std.proofs.lemmas.Bool.Decides.{nat_tests}
-use Rattle.std.specs.Prelude.{◌⊎◌, IsOk}
-use Rattle.nodes.specs.Words.{Carried, Cell, SwitchView, World, carried_size, history_of, world_of, log, IsPrefixOf, UnloadedAreIdle}
+use Rattle.std.specs.Prelude.{IsOk}
+use Rattle.nodes.specs.Words.{Carried, Cell, SwitchView, carried_size, world_of, IsPrefixOf, UnloadedAreIdle}
 use Rattle.nodes.specs.declared.moment.Moment.{Moment}
 use Rattle.nodes.specs.declared.moment.Moment.TheVariants.{SwitchIs, CellIs, Ended}
-use Rattle.nodes.specs.Moments.{lock_of, last_at, IsSwitchAt, IsCellAt}
+use Rattle.nodes.specs.Moments.{lock_of, IsSwitchAt, IsCellAt}
 use Rattle.nodes.specs.Runs.{GoesOnFrom, WasLearned, IsGoneOn, IsRun}
-use Rattle.nodes.proofs.PrefixLemmas.{prefix_self, prefix_snoc}
+use Rattle.nodes.proofs.PrefixLemmas.{prefix_snoc}
 use Rattle.nodes.proofs.MomentLemmas.{last-own, last-other}
 use Rattle.nodes.proofs.GoesOnLemmas.{goes_self, goes_then}
 

@@ -2,7 +2,7 @@
 use Rattle.std.proofs.Common.{◌≡◌, ℕ, zero, suc, ◌+◌, ◌<◌, ◌≤◌, nat_lt, Bool, true, false, List, [], ◌∷◌, ◌++◌, length, Option, Some, None, Result, Ok, Err, slice_get, refl, ap, sym, ◌∙◌, subst, arith, inl, inr}
 use Rattle.std.proofs.lemmas.Bool.Decides.{nat_tests}
 use Rattle.std.specs.Prelude.{◌⊎◌, IfErr, IsOk, OnOk}
-use Rattle.net.specs.declared.event.Event.TheVariants.{Deliver, Restart}
+use Rattle.net.specs.declared.event.Event.TheVariants.{Deliver}
 use Rattle.net.specs.declared.fault.StepFault.TheVariants.{Apart, NoNode}
 use Rattle.cluster.specs.Cell.{AddsEntry, TakesOver, new_cell, next_log_entry, work_limit_of}
 use Rattle.nodes.specs.Words.{Carried, Cell, Event, StepFault, SwitchView, World, IsCell, IsMoment, IsPrefixOf, Plays, UnloadedAreIdle, carried_size, history_of, log, log_after, log_entry, world_of}
@@ -115,9 +115,6 @@ module _ (old : Cell) (account : AccountView) (shared : IsSharedCell old account
     node = node;
     is_cell = is;
   }
-
-  pub count_looked : account.belongs ≡ true → (late : List Moment) → count_of account.lock late ≡ count_of account.lock account.history → (k : ℕ) → old.node ≡ k → count_of (2 + k) late ≡ count_of (2 + k) account.history
-  count_looked b late same k node = subst (λ (l : ℕ). count_of l late ≡ count_of l account.history) ((shared.tie b).lock ∙ ap (λ (j : ℕ). 2 + j) node) same
 
   pub may_cell : (new : Cell) → new.node ≡ old.node → (seen : List Moment)
       → ((history : List Moment) → IsPrefixOf seen history → IsRun history → (slot : ℕ) (entry : Option Carried) → slice_get new.entries slot ≡ Some entry → (slice_get old.entries slot ≡ Some entry) ⊎ WasLearned history old.node slot entry)

@@ -4,7 +4,7 @@
 -- `Plays carried_size old new e answer` (crate `switch`): at the switch `old`, the event e has this
 -- answer, the count of packets posted so far or a fault, and leaves the switch `new`.
 -- `carried_size` is the size of an entry in bytes.
-use Rattle.std.specs.Prelude.{◌≡◌, ◌⊎◌, ℕ, Bool, true, false, List, [], ◌∷◌, ◌++◌, Option, Result, Ok, Err}
+use Rattle.std.specs.Prelude.{◌≡◌, ◌⊎◌, ℕ, Bool, true, false, List, [], ◌∷◌, ◌++◌, Option, Result, Err}
 use Rattle.nodes.specs.Words.{Listed, Verdict, status, listed, Carried, Ahead, Event, Deliver, StepFault, Apart, Stopped, carried_size, RunBefore, history_of, SwitchView, DeliversTogether, Plays, IsAhead, Cell, IsPrefixOf}
 use Rattle.nodes.specs.declared.moment.Moment.{Moment}
 use Rattle.nodes.specs.Moments.{IsSwitchAt, IsStoppedAt}

@@ -3,7 +3,7 @@
 -- Source: Lamport, Paxos Made Simple, section 3: the inputs of a state machine determine its run.
 -- The code stores no such history: the threads share a word for each lock, with the number of
 -- moments that were recorded under it.
-use Rattle.std.specs.Prelude.{◌≡◌, ℕ, ◌+◌, ◌==◌, Bool, true, false, List, [], ◌∷◌, ◌++◌, Option, Some, None, if◌then◌else◌}
+use Rattle.std.specs.Prelude.{◌≡◌, ℕ, ◌+◌, ◌==◌, Bool, true, false, List, [], ◌∷◌, Option, Some, None, if◌then◌else◌}
 use Rattle.nodes.specs.Words.{Carried, Cell, SwitchView}
 use Rattle.nodes.specs.declared.moment.Moment.{Moment}
 use Rattle.nodes.specs.declared.moment.Moment.TheVariants.{SwitchIs, CellIs, Ended}

@@ -2,8 +2,8 @@
 -- Source: Lamport, Paxos Made Simple, section 3: a server executes the commands in the order of
 -- their numbers, each as far as it has learned it.
 -- No code computes this: it is the rule that each recorded moment keeps.
-use Rattle.std.specs.Prelude.{◌≡◌, ℕ, List, ◌∷◌, [], ◌++◌, Option, Some, IsOk, slice_get}
-use Rattle.nodes.specs.Words.{Carried, Cell, Event, SwitchView, World, carried_size, history_of, world_of, IsPrefixOf, IsMoment, log, UnloadedAreIdle}
+use Rattle.std.specs.Prelude.{◌≡◌, ℕ, List, Option, Some, IsOk, slice_get}
+use Rattle.nodes.specs.Words.{Carried, Cell, SwitchView, World, carried_size, history_of, world_of, IsPrefixOf, IsMoment, log, UnloadedAreIdle}
 use Rattle.nodes.specs.declared.moment.Moment.{Moment}
 use Rattle.nodes.specs.Moments.{IsSwitchAt, IsCellAt}
 

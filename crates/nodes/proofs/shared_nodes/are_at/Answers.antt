@@ -1,4 +1,4 @@
-use Rattle.std.proofs.Common.{◌≡◌, ◌+◌, List, subst}
+use Rattle.std.proofs.Common.{◌+◌, List, subst}
 use Rattle.nodes.specs.Words.{IsPrefixOf}
 use Rattle.nodes.specs.declared.moment.Moment.{Moment}
 use Rattle.nodes.specs.Moments.{count_of}

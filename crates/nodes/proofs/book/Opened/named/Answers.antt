@@ -1,7 +1,6 @@
-use Rattle.std.proofs.Common.{List, ap, sym, ◌∙◌, subst, refl}
+use Rattle.std.proofs.Common.{List, sym, ◌∙◌, subst, refl}
 use Rattle.nodes.specs.declared.moment.Moment.{Moment}
 use Rattle.nodes.specs.Runs.{IsRun}
-use Rattle.nodes.specs.Book.{IsKept}
 use Rattle.nodes.proofs.BookLemmas.{kept_new}
 use Rattle.nodes.proofs.book.Opened.named.Goals as goal
 

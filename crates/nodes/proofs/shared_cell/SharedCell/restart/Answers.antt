@@ -5,7 +5,8 @@ use Rattle.net.specs.declared.fault.StepFault.{StepFault}
 use Rattle.net.specs.declared.fault.StepFault.TheVariants.{Apart}
 use Rattle.nodes.specs.Desk.{Happens, IsRefusedIn}
 use Rattle.nodes.proofs.PrefixLemmas.{prefix_self}
-use Rattle.nodes.proofs.DeskLemmas.{happens_later, refused_between, on_ok, on_err}
+use Rattle.nodes.proofs.GoesOnLemmas.{then_ok}
+use Rattle.nodes.proofs.DeskLemmas.{happens_later, refused_between, on_err}
 use Rattle.nodes.proofs.SharedLemmas.{may_cell, restarted_entries, restarted_node, cell_recorded}
 use Rattle.nodes.proofs.shared_cell.SharedCell.restart.Goals as goal
 
@@ -22,7 +23,7 @@ invariant_of-self-2 g c =
 pub returns-clause-played : goal.returns-clause-played
 returns-clause-played g c =
     let at : c.self.inside.cell.node ≡ c.args.k = cc in
-    on_ok (Happens c.args.front.now c.restart-answer.new.front (Restart c.self.inside.cell.node)) (Happens c.args.front.now c.add.new.front (Restart c.args.k)) c.restart-answer.result
+    then_ok (Happens c.args.front.now c.restart-answer.new.front (Restart c.self.inside.cell.node)) (Happens c.args.front.now c.add.new.front (Restart c.args.k)) c.restart-answer.result
     (λ h. subst (λ (j : ℕ). Happens c.args.front.now c.add.new.front (Restart j)) at (happens_later c.args.front.now c.restart-answer.new.front c.add.new.front (Restart c.self.inside.cell.node) c.add.ensures.seen h))
     c.restart-answer.ensures.played
 

@@ -1,7 +1,5 @@
 use Rattle.std.proofs.Common.{not}
-use Rattle.nodes.proofs.Words.{◌≡◌, Bool, true, false, arith, ap, sym, ◌∙◌, subst, vec_len}
-use Rattle.nodes.specs.Shared.{SharedSwitchView}
-use Rattle.nodes.specs.Desk.{DeliversAll}
+use Rattle.nodes.proofs.Words.{◌≡◌, Bool, true, false, arith, ap, sym, ◌∙◌}
 use Rattle.nodes.proofs.SharedLemmas.{together_on, goes_in}
 use Rattle.nodes.proofs.shared_switch.SharedSwitch.deliver_all.Goals as goal
 
