@@ -1,10 +1,12 @@
 //! Answers about a node, asked at a desk: the calls of `nodes` by which any thread asks the nodes
 //! that `serve` starts.
-ghost use Rattle.std.specs.Prelude.{◌≡◌, ◌++◌, ◌≤◌, ℕ, List, Err, IfOk, OnOk, codes, length, option_and_then};
+ghost use Rattle.std.specs.Prelude.{◌≡◌, ◌++◌, ◌≤◌, ◌⊎◌, ℕ, List, Err, IfOk, OnOk, codes, length, option_and_then};
 ghost use Rattle.std.specs.Prelude.{option_map, slice_get, string_bytes, vec_len, if◌then◌else◌};
 ghost use Rattle.cluster.specs.Cell.{Cell};
+ghost use Rattle.cluster.specs.declared.compare.Ahead.{Ahead};
 ghost use Rattle.net.specs.declared.event.Event.{Event as TakenEvent};
 ghost use Rattle.world.specs.declared.carried.Carried.{Carried as TakenEntry};
+ghost use Rattle.nodes.specs.Desk.{IsCompared};
 ghost use Rattle.nodes.specs.Questions.{IsHealth, IsHistory, IsNodeStatus};
 ghost use Rattle.nodes.specs.Shared.{IsNodeCell};
 ghost use Rattle.world.specs.declared.health.Health.{Health};
@@ -14,7 +16,7 @@ ghost use Rattle.printed.specs.Printed.{export_text};
 ghost use Rattle.printed.specs.Healths.{health_text};
 ghost use Rattle.printed.specs.States.{state_text};
 ghost use Rattle.event_lines.specs.EventLines.{counted_event_lines};
-ghost use Rattle.program.specs.Answers.{IsLabelAnswer};
+ghost use Rattle.program.specs.Answers.{IsLabelAnswer, ahead_line};
 ghost use Rattle.program.specs.Stored.{store_text};
 
 use crate::node_answers::{ahead_line, label_answer};
@@ -182,7 +184,11 @@ impl<J: Naming, R: Wait, K: Keep<Carried>, B: FileSizes, E: Write> AnsweringDesk
     }
 
     /// Appends which of two nodes has the library with more statements.
-    pub fn push_compared(&mut self, pair: NodePair, text: &mut Vec<u8>) -> Result<(), Fault> {
+    pub fn push_compared(&mut self, pair: NodePair, text: &mut Vec<u8>) -> Result<(), Fault>
+        ensures { OnOk result ((ahead : Ahead)
+            × ((pair.first ≡ pair.second) ⊎ IsCompared self.new.desk.seen pair.first pair.second ahead)
+            × (text.new.items ≡ text.old.items ++ ahead_line ahead)) }
+    {
         let ahead = self.desk.compare(self.rt, pair.first, pair.second)?;
         Ok(text.extend_from_slice(ahead_line(ahead))?)
     }
