@@ -97,7 +97,7 @@ fn seconds_of<R: Clock>(rt: &R) -> u64 {
 /// until each node that is up has applied all that was chosen. `weights` are those of the nodes.
 ///
 /// Errors: those of `Desk::health` and `Desk::begin`; an allocation fails.
-#[tactic(auto, using(nodes::proofs::PrefixLemmas::prefix_trans, crate::proofs::HealthLemmas::was_health, crate::proofs::HealthLemmas::were_applied))]
+#[tactic(auto, using(nodes::proofs::PrefixLemmas::prefix_trans))]
 pub fn recover<J: Naming, R: Wait + Clock, K: Keep<Carried>, E: Write>(
     rt: &R,
     desk: &mut NodesDesk<J, K>,
@@ -204,7 +204,7 @@ fn weight_up(weights: Weights, nodes: &[NodeStatus], k: u8) -> u8
 
 /// Waits until each node that is up has applied what the leader proposed, and returns how many
 /// entries these are; `None` if nothing is learned for a while.
-#[tactic(auto, using(nodes::proofs::PrefixLemmas::prefix_trans, crate::proofs::HealthLemmas::was_health))]
+#[tactic(auto, using(nodes::proofs::PrefixLemmas::prefix_trans))]
 fn wait_until_applied<J: Naming, R: Wait + Clock, K: Keep<Carried>, E: Write>(
     rt: &R,
     desk: &mut NodesDesk<J, K>,
