@@ -9,7 +9,7 @@
 //! Reading order: `form` (forms and faults), `request`, `statement`, `walk` (the order in which
 //! steps are written), `labels`, `position_numbers`, `label_order` (the order of labels),
 //! `compressed_code` (labels and letters), `lines` (wraps words), `writing` (the whole text);
-//! `same_steps`, `verification` and `text` (what is proved of it).
+//! `same_steps`, `spelled_steps`, `verification` and `text` (what is proved of it).
 #![tactic(auto)]
 
 mod compressed_code;
@@ -20,6 +20,7 @@ mod lines;
 mod position_numbers;
 mod request;
 mod same_steps;
+mod spelled_steps;
 mod statement;
 mod text;
 mod verification;
