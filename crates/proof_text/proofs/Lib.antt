@@ -1,3 +1,4 @@
 pub mod StepsLemmas
+pub mod SpelledLemmas
 pub mod RequestLemmas
 pub mod TextLemmas

@@ -1,2 +1,3 @@
 pub mod ProofTexts
 pub mod Requests
+pub mod Spelled

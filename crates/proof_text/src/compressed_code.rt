@@ -2,11 +2,11 @@
 
 use crate::label_order::{CitedLabel, listed_positions};
 use crate::labels::{label_at, position_at};
+use crate::position_numbers::{PositionNumbers, cited_positions};
 use crate::request::TextRequest;
 use crate::walk::{Part, Walk};
 use mm_read::Stmt;
 use std::alloc::{AllocError, Global};
-use std::collections::BTreeMap;
 use steps::ProofTable;
 
 /// A compressed proof.
@@ -22,8 +22,8 @@ pub(crate) struct CompressedCode {
 /// mandatory hypotheses. A result is marked if a later step takes it again; that of a step which
 /// takes no other is not marked, but cited again.
 ///
-/// Errors: an allocation fails. Cost: the size of the table, for each step the logarithm of the
-/// number of labels, and that of `listed_positions`.
+/// Errors: an allocation fails. Cost: the size of the table, for each step the logarithm of their
+/// number, and that of `listed_positions`.
 /// Source: Metamath, appendix B.
 pub(crate) fn compressed_code(
     alloc: Global,
@@ -32,22 +32,31 @@ pub(crate) fn compressed_code(
     mandatory: &[u32],
 ) -> Result<CompressedCode, AllocError> {
     let parts = merged_parts(alloc, table)?;
-    let mandatory_numbers = mandatory_numbers(alloc, mandatory)?;
-    let labels = cited_labels(alloc, request, table, &mandatory_numbers, &parts)?;
+    let positions = cited_positions(alloc, table)?;
+    let mut numbers = PositionNumbers::new(alloc, &positions)?;
+    for (index, position) in mandatory.iter().enumerate() {
+        numbers.set(*position as usize, index.saturating_add(1));
+    }
+    let labels = cited_labels(alloc, request, table, &positions, &numbers, &parts)?;
     let listed = listed_positions(alloc, &labels, mandatory.len())?;
-    let numbers = label_numbers(alloc, table, mandatory_numbers, &listed)?;
+    for (index, position) in listed.iter().enumerate() {
+        numbers.set(
+            *position,
+            mandatory.len().saturating_add(index).saturating_add(1),
+        );
+    }
     let label_count = mandatory.len().saturating_add(listed.len());
     let letters = letters_of(alloc, table, &parts, &numbers, label_count)?;
     Ok(CompressedCode { listed, letters })
 }
 
-/// Returns the letters of the parts of a proof. `numbers` are those of the labels of the steps, of
-/// which there are `label_count`.
+/// Returns the letters of the parts of a proof. `numbers` are those of the labels of the cited
+/// positions, of which there are `label_count` with the mandatory ones.
 fn letters_of(
     alloc: Global,
     table: &ProofTable,
     parts: &[Part],
-    numbers: &[usize],
+    numbers: &PositionNumbers<'_>,
     label_count: usize,
 ) -> Result<Vec<u8>, AllocError> {
     let repeated = repeated_steps(alloc, table.len(), parts)?;
@@ -57,7 +66,7 @@ fn letters_of(
     for part in parts {
         match *part {
             Part::Step(place) => {
-                push_number(&mut letters, number_at(numbers, place))?;
+                push_number(&mut letters, numbers.get(position_at(table, place)))?;
                 if is_set(&repeated, place) {
                     letters.push(b'Z')?;
                     mark_count = mark_count.saturating_add(1);
@@ -110,34 +119,30 @@ fn repeated_steps(alloc: Global, count: usize, parts: &[Part]) -> Result<Vec<boo
 }
 
 /// Returns the labels that are listed, in the order of their first citation: those of all steps
-/// but of the mandatory hypotheses.
+/// but of the mandatory hypotheses, whose positions have numbers.
 fn cited_labels(
     alloc: Global,
     request: &TextRequest<'_>,
     table: &ProofTable,
-    mandatory: &BTreeMap<usize, usize>,
+    positions: &[usize],
+    mandatory: &PositionNumbers<'_>,
     parts: &[Part],
 ) -> Result<Vec<CitedLabel>, AllocError> {
     let mut labels = Vec::new(alloc);
-    let mut indices = BTreeMap::new(alloc);
+    let mut ordinals = PositionNumbers::new(alloc, positions)?;
     for part in parts {
         let Part::Step(place) = *part else {
             continue;
         };
         let position = position_at(table, place);
-        if mandatory.contains_key(&position) {
+        if mandatory.get(position) != 0 {
             continue;
         }
-        let index = match indices.get(&position).copied() {
-            Some(index) => index,
-            None => {
-                let index = labels.len();
-                indices.insert(position, index)?;
-                labels.push(cited_label(request, position))?;
-                index
-            }
-        };
-        count_citation(&mut labels, index);
+        if ordinals.get(position) == 0 {
+            labels.push(cited_label(request, position))?;
+            ordinals.set(position, labels.len());
+        }
+        count_citation(&mut labels, ordinals.get(position));
     }
     Ok(labels)
 }
@@ -153,44 +158,12 @@ fn cited_label(request: &TextRequest<'_>, position: usize) -> CitedLabel {
     }
 }
 
-/// Counts a citation of the label at an index, if there is one.
-fn count_citation(labels: &mut [CitedLabel], index: usize) {
+/// Counts a citation of the label with an ordinal, from 1, if there is one.
+fn count_citation(labels: &mut [CitedLabel], ordinal: usize) {
+    let index = ordinal.saturating_sub(1);
     if index < labels.len() {
         labels[index].count = labels[index].count.saturating_add(1);
     }
-}
-
-/// Returns the numbers of the labels of the mandatory hypotheses by their positions, from 1.
-fn mandatory_numbers(
-    alloc: Global,
-    mandatory: &[u32],
-) -> Result<BTreeMap<usize, usize>, AllocError> {
-    let mut numbers = BTreeMap::new(alloc);
-    for (index, position) in mandatory.iter().enumerate() {
-        numbers.insert(*position as usize, index.saturating_add(1))?;
-    }
-    Ok(numbers)
-}
-
-/// Returns the number of the label of each step: that of the mandatory label, or after all of these
-/// that of the listed label.
-fn label_numbers(
-    alloc: Global,
-    table: &ProofTable,
-    mandatory: BTreeMap<usize, usize>,
-    listed: &[usize],
-) -> Result<Vec<usize>, AllocError> {
-    let mut by_position = mandatory;
-    for position in listed {
-        let number = by_position.len().saturating_add(1);
-        by_position.insert(*position, number)?;
-    }
-    let mut numbers = Vec::with_capacity(alloc, table.len())?;
-    for place in 0..table.len() {
-        let number = by_position.get(&table.position(place)).copied();
-        numbers.push(number.unwrap_or(0))?;
-    }
-    Ok(numbers)
 }
 
 /// Returns the number at a place, or 0 if there is none.

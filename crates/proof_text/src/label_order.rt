@@ -27,7 +27,7 @@ pub(crate) struct CitedLabel {
 /// of mandatory hypotheses, which have the first numbers.
 ///
 /// Errors: an allocation fails. Cost: the number of labels, times the number of lines that they
-/// have and the width of a line.
+/// have.
 pub(crate) fn listed_positions(
     alloc: Global,
     labels: &[CitedLabel],
@@ -150,13 +150,14 @@ impl Listing {
         Ok(())
     }
 
-    /// Appends the labels that are chosen, and returns the others.
+    /// Appends those of the first labels that are chosen, and returns the others and the labels after
+    /// the first ones.
     fn push_chosen(
         &mut self,
         labels: &[CitedLabel],
         chosen: &[bool],
     ) -> Result<Vec<CitedLabel>, AllocError> {
-        let mut left = Vec::new(self.alloc);
+        let mut left = Vec::with_capacity(self.alloc, labels.len())?;
         for (label, is_chosen) in labels.iter().zip(chosen.iter()) {
             if *is_chosen {
                 self.positions.push(label.position)?;
@@ -165,53 +166,60 @@ impl Listing {
                 left.push(*label)?;
             }
         }
+        left.extend_from_slice(&labels[chosen.len().min(labels.len())..])?;
         Ok(left)
     }
 }
 
-/// Returns for each label whether a line with this room takes it, so that it is filled the most.
+/// Returns for each of the first labels whether a line with this room takes it, so that it is
+/// filled the most. The line takes none of the labels after these.
 ///
-/// Cost: the room, times the number of labels.
+/// Cost: the number of these labels, which end where the line can be full.
 fn fullest_line(
     alloc: Global,
     labels: &[CitedLabel],
     room: usize,
 ) -> Result<Vec<bool>, AllocError> {
-    let mut chosen = vec![in alloc; false; labels.len()]?;
-    let fills = fills(alloc, labels, room)?;
-    let mut left = room;
-    for index in (0..labels.len()).rev() {
-        let size = labels[index].size;
-        if fill_at(&fills, room, index.saturating_add(1), left)
-            != fill_at(&fills, room, index, left)
-            && index < chosen.len()
-        {
+    let mut fills = Vec::new(alloc);
+    // The line is left empty if no label is taken.
+    let mut all = 1u128;
+    for label in labels {
+        if is_fill(all, room) {
+            break;
+        }
+        fills.push(all)?;
+        all |= fills_with(all, label.size);
+    }
+    let mut fill = greatest_fill(all, room);
+    let mut chosen = vec![in alloc; false; fills.len()]?;
+    for index in (0..fills.len()).rev() {
+        if !is_fill(fills[index], fill) && index < labels.len() {
             chosen[index] = true;
-            left = left.saturating_sub(size);
+            fill = fill.saturating_sub(labels[index].size);
         }
     }
     Ok(chosen)
 }
 
-/// Returns, for each count of labels from 0 and each room up to the given one, how much of the room
-/// the first labels can fill.
-fn fills(alloc: Global, labels: &[CitedLabel], room: usize) -> Result<Vec<usize>, AllocError> {
-    let mut fills = vec![in alloc; 0; room.saturating_add(1)]?;
-    for (index, label) in labels.iter().enumerate() {
-        for within in 0..room.saturating_add(1) {
-            let without = fill_at(&fills, room, index, within);
-            let with = match within.checked_sub(label.size) {
-                Some(rest) => fill_at(&fills, room, index, rest).saturating_add(label.size),
-                None => 0,
-            };
-            fills.push(without.max(with))?;
-        }
-    }
-    Ok(fills)
+/// Returns whether some labels fill this much of a line. The bit of a number in `fills` says
+/// whether labels fill as much; no line has room for 128 bytes.
+fn is_fill(fills: u128, fill: usize) -> bool {
+    fill < 128 && (fills >> fill) & 1 == 1
 }
 
-/// Returns how much of a room the first labels can fill, by the table of `fills`.
-fn fill_at(fills: &[usize], room: usize, labels: usize, within: usize) -> usize {
-    let row = labels.saturating_mul(room.saturating_add(1));
-    fills.get(row.saturating_add(within)).copied().unwrap_or(0)
+/// Returns the fills of a line if a label of this size is taken besides the labels of the others.
+fn fills_with(fills: u128, size: usize) -> u128 {
+    if size < 128 { fills << size } else { 0 }
+}
+
+/// Returns the greatest of the fills that the room has place for, or 0 if there is none.
+fn greatest_fill(fills: u128, room: usize) -> usize {
+    let mut greatest = room;
+    for _ in 0..room {
+        if is_fill(fills, greatest) {
+            break;
+        }
+        greatest = greatest.saturating_sub(1);
+    }
+    greatest
 }

@@ -7,9 +7,9 @@
 //! the table, and only a text that has passed is returned.
 //!
 //! Reading order: `form` (forms and faults), `request`, `statement`, `walk` (the order in which
-//! steps are written), `labels`, `label_order` (the order of labels), `compressed_code` (labels and
-//! letters), `lines` (wraps words), `writing` (the whole text); `same_steps`, `verification` and
-//! `text` (what is proved of it).
+//! steps are written), `labels`, `position_numbers`, `label_order` (the order of labels),
+//! `compressed_code` (labels and letters), `lines` (wraps words), `writing` (the whole text);
+//! `same_steps`, `spelled_steps`, `verification` and `text` (what is proved of it).
 #![tactic(auto)]
 
 mod compressed_code;
@@ -17,8 +17,10 @@ mod form;
 mod label_order;
 mod labels;
 mod lines;
+mod position_numbers;
 mod request;
 mod same_steps;
+mod spelled_steps;
 mod statement;
 mod text;
 mod verification;

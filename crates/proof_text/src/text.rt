@@ -8,6 +8,7 @@ ghost use Rattle.verify.specs.Right.{IsRight};
 ghost use Rattle.proof_text.specs.ProofTexts.{IsProofText, IsRewritten, IsTextOf};
 ghost use Rattle.proof_text.specs.ProofTexts.{is_compressed_form};
 ghost use Rattle.proof_text.specs.Requests.{IsRequest};
+ghost use Rattle.proof_text.specs.Spelled.{AreDistinct};
 
 use crate::form::{TextFault, TextForm};
 use crate::request::TextRequest;
@@ -26,7 +27,7 @@ use steps::{ProofTable, proof_table};
 ///
 /// Errors: `TooLarge` if the text has more bytes than the request allows, or its proof a weight
 /// above `SYMBOLS_LIMIT`, as a normal proof may; `Memory` if an allocation fails. Cost: that of
-/// `steps::proof_table`, twice, and of reading and verifying the text.
+/// `steps::proof_table`, and of reading and verifying the text.
 /// Source: Metamath, 4.3 and appendix B.
 pub fn proof_text(
     alloc: Global,
@@ -61,7 +62,8 @@ fn is_proof_text(
     table: &ProofTable,
     text: &[u8],
 ) -> Result<bool, AllocError>
-    requires { IsRequest request.now }
+    requires request { IsRequest request.now }
+    requires distinct { AreDistinct (steps_of table.now) }
     ensures { IfOk result (λ same. IsTrue same → IsTextOf request.now.statements.now request.now.at
         request.now.form text.now
         (last_unfolded request.now.frames.now.statements (steps_of table.now))) }
@@ -101,6 +103,7 @@ fn is_rewritten(
     new: &Stmt,
 ) -> Result<bool, AllocError>
     requires request { IsRequest request.now }
+    requires distinct { AreDistinct (steps_of table.now) }
     requires old { stmt_at request.now.frames.now.statements request.now.at ≡ Some (bare old.now) }
     ensures { IfOk result (λ same. IsTrue same → IsRewritten request.now.frames.now.statements
         request.now.at request.now.form old.now new.now

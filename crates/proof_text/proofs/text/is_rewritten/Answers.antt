@@ -4,8 +4,8 @@ use Rattle.proof_text.proofs.RequestLemmas.{provable-there}
 use Rattle.proof_text.proofs.TextLemmas.{bare-provable, rewritten}
 use Rattle.proof_text.proofs.text.is_rewritten.Goals as goal
 
-pub proves_by_steps-requires : goal.proves_by_steps-requires
-proves_by_steps-requires c = provable-there c.args.request.now c.requires.request
+pub proves_by_steps-requires-clause-provable : goal.proves_by_steps-requires-clause-provable
+proves_by_steps-requires-clause-provable c = provable-there c.args.request.now c.requires.request
 
 pub returns : goal.returns
 returns c =

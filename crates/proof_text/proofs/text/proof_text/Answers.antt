@@ -1,4 +1,5 @@
 use Rattle.std.proofs.Common.{subst}
+use Rattle.steps.proofs.SoundLemmas.{steps-sound}
 use Rattle.steps.specs.Rows.{steps_of}
 use Rattle.steps.specs.Unfolded.{last_unfolded}
 use Rattle.verify.specs.Right.{Derives}
@@ -14,3 +15,8 @@ returns-clause-text c =
       was = subst (λ S. Derives S r.at c.args.items.now tree) c.requires.request.same c.in_ok-table.ensures.derives;
       is_text = subst (λ t. IsTextOf r.statements.now r.at r.form t tree) c.deref.ensures.value (c.in_ok-is_right.ensures c.if-not-is_right.false);
     }
+
+pub is_proof_text-requires-clause-distinct : goal.is_proof_text-requires-clause-distinct
+is_proof_text-requires-clause-distinct c =
+    let r = c.args.request.now in
+    (steps-sound r.frames.now.statements r.at c.args.items.now (steps_of c.in_ok-table.table) c.in_ok-table.ensures.steps).once
