@@ -30,5 +30,5 @@ returns-in-Some g c = inr (
       (prefix_trans c.args.desk.now.seen c.loop-ballot.desk.seen c.begin_if_up.new.desk.seen c.loop-ballot.invariant.seen
       (prefix_trans c.loop-ballot.desk.seen c.health.new.self.seen c.begin_if_up.new.desk.seen c.in_ok-health.ensures.seen c.begin_if_up.ensures.seen))
       (c.begin_if_up.ensures.nodes ∙ c.in_ok-health.ensures.nodes ∙ c.loop-ballot.invariant.nodes)
-      (rw c.in-Some.is at c.in_ok-wait_until_applied.ensures.applied),
+      (rw c.in-Some.is at c.in_ok-entries.ensures.applied),
 )
