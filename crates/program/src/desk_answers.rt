@@ -43,7 +43,7 @@ use world::{Carried, NodeStatus};
 pub struct AnsweringDesk<'a, J: Naming, R: Wait, K: Keep<Carried>, B: FileSizes, E: Write> {
     pub rt: &'a R,
     pub alloc: Global,
-    pub desk: NodesDesk<J, K>,
+    pub desk: &'a mut NodesDesk<J, K>,
     pub sizes: &'a B,
     pub stored: &'a StoredNodes,
     pub stderr: &'a mut E,
@@ -91,7 +91,7 @@ impl<J: Naming, R: Wait, K: Keep<Carried>, B: FileSizes, E: Write> AnsweringDesk
     /// Appends the bytes of a node's files, its promise, at how many slots it accepted an entry,
     /// and `good` or `down`; of a damaged node why it is.
     pub fn push_store(&mut self, node: u8, text: &mut Vec<u8>) -> Result<(), Fault>
-        ensures { OnOk result ((status : NodeStatus) × (bytes : ℕ) × IsNodeStatus self.new.desk.seen node status
+        ensures { OnOk result ((status : NodeStatus) × (bytes : ℕ) × IsNodeStatus self.new.desk.now.seen node status
             × (text.new.items ≡ text.old.items ++ store_text bytes status
             (option_and_then (λ d. option_map (λ s. string_bytes s) d) (slice_get self.old.stored.now.damages.items node)))) }
     {
@@ -102,7 +102,7 @@ impl<J: Naming, R: Wait, K: Keep<Carried>, B: FileSizes, E: Write> AnsweringDesk
 
     /// Appends the statements of a node's library.
     pub fn push_export(&mut self, node: u8, text: &mut Vec<u8>) -> Result<(), Fault>
-        ensures { OnOk result ((cell : Cell) × IsNodeCell self.new.desk.seen node cell
+        ensures { OnOk result ((cell : Cell) × IsNodeCell self.new.desk.now.seen node cell
             × (text.new.items ≡ text.old.items ++ export_text cell.node_library.library.statements)) }
     {
         let alloc = self.alloc;
@@ -114,7 +114,7 @@ impl<J: Naming, R: Wait, K: Keep<Carried>, B: FileSizes, E: Write> AnsweringDesk
 
     /// Appends the entries that a node took over from its log.
     pub fn push_log(&mut self, node: u8, text: &mut Vec<u8>) -> Result<(), Fault>
-        ensures { OnOk result ((cell : Cell) × IsNodeCell self.new.desk.seen node cell
+        ensures { OnOk result ((cell : Cell) × IsNodeCell self.new.desk.now.seen node cell
             × (text.new.items ≡ text.old.items ++ carried_log_text cell.entries)) }
     {
         let alloc = self.alloc;
@@ -124,7 +124,7 @@ impl<J: Naming, R: Wait, K: Keep<Carried>, B: FileSizes, E: Write> AnsweringDesk
 
     /// Appends the state of a node.
     pub fn push_state(&mut self, node: u8, text: &mut Vec<u8>) -> Result<(), Fault>
-        ensures { OnOk result ((status : NodeStatus) × IsNodeStatus self.new.desk.seen node status
+        ensures { OnOk result ((status : NodeStatus) × IsNodeStatus self.new.desk.now.seen node status
             × (text.new.items ≡ text.old.items
             ++ state_text status.state status.applied status.is_down)) }
     {
@@ -136,7 +136,7 @@ impl<J: Naming, R: Wait, K: Keep<Carried>, B: FileSizes, E: Write> AnsweringDesk
     /// many events are taken.
     pub fn push_health(&mut self, text: &mut Vec<u8>) -> Result<(), Fault>
         ensures { OnOk result ((health : Health) × (stored : List ℕ)
-            × IsHealth self.old.desk.seen self.new.desk.seen self.old.desk.node_count health
+            × IsHealth self.old.desk.now.seen self.new.desk.now.seen self.old.desk.now.node_count health
             × (length stored ≡ self.old.stored.now.file_count)
             × (text.new.items ≡ text.old.items ++ health_text health stored)) }
     {
@@ -163,7 +163,7 @@ impl<J: Naming, R: Wait, K: Keep<Carried>, B: FileSizes, E: Write> AnsweringDesk
         text: &mut Vec<u8>,
     ) -> Result<(), Fault>
         ensures { OnOk result ((cell : Cell)
-            × IsNodeCell self.new.desk.seen question.now.node cell × (answer : List ℕ)
+            × IsNodeCell self.new.desk.now.seen question.now.node cell × (answer : List ℕ)
             × IsLabelAnswer cell.node_library.library.statements question.now.kind question.now.label answer
             × (text.new.items ≡ text.old.items ++ answer)) }
     {
@@ -186,7 +186,7 @@ impl<J: Naming, R: Wait, K: Keep<Carried>, B: FileSizes, E: Write> AnsweringDesk
     /// Appends which of two nodes has the library with more statements.
     pub fn push_compared(&mut self, pair: NodePair, text: &mut Vec<u8>) -> Result<(), Fault>
         ensures { OnOk result ((ahead : Ahead)
-            × ((pair.first ≡ pair.second) ⊎ IsCompared self.new.desk.seen pair.first pair.second ahead)
+            × ((pair.first ≡ pair.second) ⊎ IsCompared self.new.desk.now.seen pair.first pair.second ahead)
             × (text.new.items ≡ text.old.items ++ ahead_line ahead)) }
     {
         let ahead = self.desk.compare(self.rt, pair.first, pair.second)?;
@@ -195,7 +195,7 @@ impl<J: Naming, R: Wait, K: Keep<Carried>, B: FileSizes, E: Write> AnsweringDesk
 
     /// Appends the history so far, as lines of `play` after their count.
     pub fn push_events(&mut self, text: &mut Vec<u8>) -> Result<(), Fault>
-        ensures { OnOk result ((events : List (TakenEvent TakenEntry)) × IsHistory self.new.desk.seen events
+        ensures { OnOk result ((events : List (TakenEvent TakenEntry)) × IsHistory self.new.desk.now.seen events
             × (text.new.items ≡ text.old.items ++ counted_event_lines events)) }
     {
         let events = self.desk.history(self.rt)?;

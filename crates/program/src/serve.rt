@@ -136,7 +136,7 @@ fn serve_lines<
     tell_damages(alloc, stderr, path, &stored)?;
     let mut nodes: Nodes<J, F::Keep> = start_nodes(rt, alloc, opened, options, keeps)?;
     let answered = match tell_recovered(rt, &nodes, options, stderr) {
-        Ok(()) => answer_at_desk(rt, &nodes, folder, &stored, lines, output, stderr),
+        Ok(()) => answer_by_nodes(rt, &nodes, folder, &stored, lines, output, stderr),
         Err(fault) => Err(fault),
     };
     let stopped = stop_nodes(rt, &mut nodes);
@@ -165,7 +165,28 @@ fn tell_recovered<J: Naming, R: Wait + Clock, K: Keep<Carried>, E: Write>(
     Ok(())
 }
 
-/// Prints the answers to the lines at a desk of the nodes, and returns the exit status.
+/// Prints the answers of the nodes to the lines, and returns the exit status.
+fn answer_by_nodes<
+    J: Naming,
+    R: AllocGlobal + Wait,
+    S: LineSource<ServedLine>,
+    O: Write,
+    E: Write,
+    F: KeepFolder<Carried>,
+>(
+    rt: &R,
+    nodes: &Nodes<J, F::Keep>,
+    folder: &F,
+    stored: &StoredNodes,
+    lines: &mut S,
+    output: &mut O,
+    stderr: &mut E,
+) -> Result<u8, Fault> {
+    let mut desk = nodes.desk()?;
+    answer_at_desk(rt, &mut desk, folder, stored, lines, output, stderr)
+}
+
+/// Prints the answers to the lines at a desk, and returns the exit status.
 fn answer_at_desk<
     'a,
     J: Naming,
@@ -176,14 +197,13 @@ fn answer_at_desk<
     F: KeepFolder<Carried>,
 >(
     rt: &'a R,
-    nodes: &Nodes<J, F::Keep>,
+    desk: &'a mut NodesDesk<J, F::Keep>,
     folder: &'a F,
     stored: &'a StoredNodes,
     lines: &mut S,
     output: &mut O,
     stderr: &'a mut E,
 ) -> Result<u8, Fault> {
-    let desk = nodes.desk()?;
     let sizes = FolderSizes { folder };
     let mut answering = AnsweringDesk {
         rt,
@@ -246,13 +266,13 @@ fn answer_serve_line<J: Naming, R: Wait, K: Keep<Carried>, B: FileSizes, E: Writ
             answering.tell_recovering(entry_id.node);
             Ok(push_verdict_line(
                 text,
-                wait_for_verdict(answering.rt, &mut answering.desk, entry_id)?,
+                wait_for_verdict(answering.rt, answering.desk, entry_id)?,
                 b"unknown",
             )?)
         }
         ServeLine::Add(offered) => {
             answering.tell_recovering(offered.node);
-            let outcome = add_until_decided(answering.rt, &mut answering.desk, &offered)?;
+            let outcome = add_until_decided(answering.rt, answering.desk, &offered)?;
             Ok(push_verdict_line(text, outcome, b"unknown")?)
         }
         ServeLine::Health => answering.push_health(text),
@@ -286,10 +306,10 @@ fn answer_common_line<J: Naming, R: Wait, K: Keep<Carried>, B: FileSizes, E: Wri
         CommonLine::Begin { node } => answering.desk.begin(rt, node)?,
         CommonLine::Restart { node } => answering.restart(node)?,
         CommonLine::List { node } => {
-            return Ok(push_node_list(rt, &mut answering.desk, node, text)?);
+            return Ok(push_node_list(rt, answering.desk, node, text)?);
         }
         CommonLine::Status(entry_id) => {
-            let verdict = status(rt, &mut answering.desk, entry_id)?;
+            let verdict = status(rt, answering.desk, entry_id)?;
             return Ok(push_verdict_line(text, verdict, b"unknown")?);
         }
         CommonLine::Export { node } => return answering.push_export(node, text),
