@@ -27,7 +27,7 @@ pub(crate) struct Walk<'a> {
     table: &'a ProofTable,
     /// The steps that were begun, each one taken by the one before it.
     begun: Vec<BegunStep>,
-    /// For each step whether its citation was written.
+    /// For each step that takes others whether its citation was written.
     written: Vec<bool>,
     /// Whether a step that takes others is written only once.
     merges: bool,
@@ -72,7 +72,10 @@ impl<'a> Walk<'a> {
                 place: step.place,
                 passed: step.passed.saturating_add(1),
             })?;
-            if self.is_repeat(place) {
+            if steps_taken(self.table, place).is_empty() {
+                return Ok(Some(Part::Step(place)));
+            }
+            if self.merges && self.is_written(place) {
                 return Ok(Some(Part::Repeat(place)));
             }
             self.begun.push(BegunStep { place, passed: 0 })?;
@@ -87,12 +90,9 @@ impl<'a> Walk<'a> {
         }
     }
 
-    /// Returns whether a step that is taken is repeated.
-    fn is_repeat(&self, place: usize) -> bool {
-        self.merges
-            && place < self.written.len()
-            && self.written[place]
-            && !steps_taken(self.table, place).is_empty()
+    /// Returns whether the citation of a step that takes others was written.
+    fn is_written(&self, place: usize) -> bool {
+        place < self.written.len() && self.written[place]
     }
 }
 
