@@ -1,1 +1,2 @@
+pub mod FoundFiles
 pub mod StoredLines

@@ -8,7 +8,7 @@ use crate::node_file::{FileNodeKeep, NodeFile};
 use crate::seen::{Seen, SeenFault};
 use crate::terms::{difference, id_in, library_text, terms_in, without_checksum};
 use file_keep::{NodeKeep, ValueColumns, Witness};
-use keep_folders::{FolderRefusal, FolderTerms, KeepFolder, KeptNode};
+use keep_folders::{FolderRefusal, FolderTerms, KeepFolder, KeptNode, may_vote};
 use sqlite_trees::error::StoreError;
 use std::alloc::{AllocError, Global};
 use std::fs::{File, OpenOptions, TryLockError};
@@ -125,7 +125,7 @@ impl Folder {
             Ok(seen) => seen,
             Err(damage) => return Ok(Err(damage)),
         };
-        if !self.is_new && !self.has_file(k, seen.count())? {
+        if !may_vote(self.is_new, self.file_bytes(k)?, seen.count()) {
             return Ok(Err(format!(in alloc; "node-{k}.db is missing or empty")?));
         }
         match NodeKeep::open(alloc, self.node_file(k)?, seen) {
@@ -141,13 +141,12 @@ impl Folder {
         }
     }
 
-    /// Returns whether the database file of a node is there, and not empty if the node has stored
-    /// this many changes.
-    fn has_file(&self, k: u8, changes: u64) -> Result<bool, AllocError> {
+    /// Returns how many bytes the database file of a node has, or `None` if it is missing.
+    fn file_bytes(&self, k: u8) -> Result<Option<u64>, AllocError> {
         let path = self.path_of(k, "db")?;
         Ok(match fs::metadata(&self.rt, path.as_str()) {
-            Ok(found) => changes == 0 || found.len() > 0,
-            Err(_) => false,
+            Ok(found) => Some(found.len()),
+            Err(_) => None,
         })
     }
 

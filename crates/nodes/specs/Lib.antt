@@ -1,4 +1,9 @@
 pub mod Words
+pub mod Moments
+pub mod Runs
+pub mod Book
+pub mod Account
+pub mod Shared
 pub mod Report
 pub mod Desk
 pub mod Questions

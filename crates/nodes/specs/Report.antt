@@ -2,6 +2,8 @@
 -- Source: this project's profile.
 -- The code goes through the history once, and adds one to the count of each event's node.
 use Rattle.std.specs.Prelude.{◌≡◌, ℕ, zero, suc, ◌+◌, ◌==◌, Bool, false, List, [], ◌∷◌, Option, Some, None, Ok, if◌then◌else◌}
+use Rattle.nodes.specs.declared.moment.Moment.{Moment}
+use Rattle.nodes.specs.Moments.{IsSwitchAt}
 use Rattle.nodes.specs.Words.{Carried, Event, World, node_of, SwitchView, world_of, carried_size}
 
 -- there is a node, and it is node k
@@ -33,3 +35,9 @@ pub record IsReport (switch : SwitchView Carried) (node_count : ℕ) (handled : 
   pub world : World Carried
   pub is_after : world_of carried_size switch ≡ Ok world
   pub counts : handled ≡ event_counts world 0 node_count switch.history
+
+-- the counts are those of the nodes in the history of the switch, as the history says
+pub record IsReportIn (history : List Moment) (node_count : ℕ) (handled : List ℕ) : Type 0 where
+  pub switch : SwitchView Carried
+  pub is_switch : IsSwitchAt history switch
+  pub is_report : IsReport switch node_count handled

@@ -1,8 +1,12 @@
 //! Submitting an entry repeatedly until a verdict on it is known at a node.
 ghost use Rattle.std.specs.Prelude.{◌≡◌, ◌≤◌, ◌<◌, Err, IfErr, IfOk, IsErr, IsOkUnless};
+ghost use Rattle.net.specs.declared.event.Event.TheVariants.{Begin};
 ghost use Rattle.net.specs.declared.fault.StepFault.TheVariants.{Apart, NoNode};
+ghost use Rattle.nodes.specs.Words.{IsPrefixOf};
+ghost use Rattle.nodes.specs.Desk.{IsPlayFault};
 ghost use Rattle.nodes.specs.Adding.{IsAddFault, IsOutcome};
 
+use crate::book::Naming;
 use crate::desk::Desk;
 use cluster::outcome_on;
 use library::{Entry, Verdict};
@@ -31,7 +35,7 @@ const YIELDS_PER_QUERY: u64 = 64;
 /// 2^64 divided by the golden ratio: its multiples modulo 2^64 are far from one another.
 const GOLDEN: u64 = 0x9E37_79B9_7F4A_7C15;
 
-impl<G: Gate, K: Keep<Carried>> Desk<G, K> {
+impl<J: Naming, G: Gate, K: Keep<Carried>> Desk<J, G, K> {
     /// Submits an entry at node `k`, repeatedly until a verdict on it is known there. Returns the
     /// verdict, or `Repeat` if another entry was decided under this author and serial number;
     /// `None` if after 17 tries nothing is known there.
@@ -43,24 +47,24 @@ impl<G: Gate, K: Keep<Carried>> Desk<G, K> {
     /// preempting each other. An entry that is submitted several times is decided once.
     ///
     /// Errors: those of `submit` except `Busy`, and those of `begin`; `Apart` if the cell is not
-    /// that of its node; `Memory`. After an error the entry may still be decided. Cost: at most 17
-    /// offers, 17 ballots and 10,000,000 turns, a call of `Library::status` for each 64 turns, and
-    /// one pass over the entries of the node.
-    pub fn add<R: Wait>(&self, rt: &R, k: u8, entry: &Entry) -> Result<Option<Verdict>, StepFault>
-        ensures outcome { IfOk result (IsOutcome k entry.now) }
-        ensures no_node { self.now ≤ k → IsErr result }
-        ensures refused { IfErr result (IsAddFault k entry.now) }
+    /// that of its node or a lock does not belong to the history; `Memory`. After an error the entry
+    /// may still be decided. Cost: at most 17 offers, 17 ballots and 10,000,000 turns, a call of
+    /// `Library::status` for each 64 turns, and one pass over the entries of the node.
+    #[tactic(auto, using(crate::proofs::PrefixLemmas::prefix_trans, crate::proofs::DeskLemmas::add_within))]
+    pub fn add<R: Wait>(
+        &mut self,
+        rt: &R,
+        k: u8,
+        entry: &Entry,
+    ) -> Result<Option<Verdict>, StepFault>
+        ensures seen { IsPrefixOf self.old.seen self.new.seen }
+        ensures nodes { self.new.node_count ≡ self.old.node_count }
+        ensures outcome { IfOk result (IsOutcome self.new.seen k entry.now) }
+        ensures no_node { self.old.node_count ≤ k → IsErr result }
+        ensures refused { IfErr result (IsAddFault self.old.seen self.new.seen k entry.now) }
     {
         for attempt in 0..MAX_TRIES {
-            self.submit_again(rt, k, entry)?;
-            let known = self.outcome(rt, k, entry)?;
-            if known.is_some() {
-                return Ok(known);
-            }
-            if attempt > 0 || !self.leads(rt, k) {
-                self.begin(rt, k)?;
-            }
-            let known = self.await_outcome(rt, k, entry, wait_after(k, attempt))?;
+            let known = self.try_to_add(rt, k, entry, attempt)?;
             if known.is_some() {
                 return Ok(known);
             }
@@ -68,20 +72,61 @@ impl<G: Gate, K: Keep<Carried>> Desk<G, K> {
         self.outcome(rt, k, entry)
     }
 
-    /// Submits a copy of the entry at node `k`. It has no effect if too many values wait there.
-    fn submit_again<R: Wait>(&self, rt: &R, k: u8, entry: &Entry) -> Result<(), StepFault>
-        ensures { IfErr result (IsAddFault k entry.now) }
+    /// Submits an entry at node `k` once, begins a ballot there if need be, and waits for the
+    /// outcome. Returns the outcome, if it is known.
+    #[tactic(auto, using(crate::proofs::PrefixLemmas::prefix_trans, crate::proofs::DeskLemmas::add_within, crate::proofs::DeskLemmas::add_begin))]
+    fn try_to_add<R: Wait>(
+        &mut self,
+        rt: &R,
+        k: u8,
+        entry: &Entry,
+        attempt: u32,
+    ) -> Result<Option<Verdict>, StepFault>
+        ensures seen { IsPrefixOf self.old.seen self.new.seen }
+        ensures nodes { self.new.node_count ≡ self.old.node_count }
+        ensures outcome { IfOk result (IsOutcome self.new.seen k entry.now) }
+        ensures no_node { self.old.node_count ≤ k → IsErr result }
+        ensures refused { IfErr result (IsAddFault self.old.seen self.new.seen k entry.now) }
     {
-        match self.submit(rt, k, entry.copy()?) {
-            Err(StepFault::Busy) => Ok(()),
-            answer => answer,
+        self.submit_again(rt, k, entry)?;
+        let known = self.outcome(rt, k, entry)?;
+        if known.is_some() {
+            return Ok(known);
         }
+        self.begin_again(rt, k, attempt)?;
+        self.await_outcome(rt, k, entry, wait_after(k, attempt))
     }
 
-    /// Returns whether node `k` leads.
+    /// Begins a ballot at node `k` unless this is the first attempt and the node leads.
+    fn begin_again<R: Wait>(&mut self, rt: &R, k: u8, attempt: u32) -> Result<(), StepFault>
+        ensures seen { IsPrefixOf self.old.seen self.new.seen }
+        ensures nodes { self.new.node_count ≡ self.old.node_count }
+        ensures refused { IfErr result (IsPlayFault self.old.seen self.new.seen (Begin k)) }
+    {
+        if attempt == 0 && self.leads(rt, k) {
+            return Ok(());
+        }
+        self.begin(rt, k)
+    }
+
+    /// Submits a copy of the entry at node `k`. It has no effect if too many values wait there.
+    fn submit_again<R: Wait>(&mut self, rt: &R, k: u8, entry: &Entry) -> Result<(), StepFault>
+        ensures seen { IsPrefixOf self.old.seen self.new.seen }
+        ensures nodes { self.new.node_count ≡ self.old.node_count }
+        ensures refused { IfErr result (IsAddFault self.old.seen self.new.seen k entry.now) }
+    {
+        let copy = entry.copy()?;
+        let answer = self.submit(rt, k, copy);
+        if answer == Err(StepFault::Busy) {
+            return Ok(());
+        }
+        answer
+    }
+
+    /// Returns whether node `k` leads. The answer is only a hint when to begin a ballot.
     fn leads<R: Wait>(&self, rt: &R, k: u8) -> bool {
         let shared_switch = self.shared.switch.lock(rt);
-        match shared_switch.switch.state(k) {
+        match shared_switch.switch().state(k) {
             Ok(state) => matches!(state.role, Role::Leading { .. }),
             Err(_) => false,
         }
@@ -89,16 +134,19 @@ impl<G: Gate, K: Keep<Carried>> Desk<G, K> {
 
     /// Returns the outcome of the entry at node `k` as soon as it is known, at the latest after
     /// `yields` turns.
+    #[tactic(auto, using(crate::proofs::PrefixLemmas::prefix_trans))]
     fn await_outcome<R: Wait>(
-        &self,
+        &mut self,
         rt: &R,
         k: u8,
         entry: &Entry,
         yields: u64,
     ) -> Result<Option<Verdict>, StepFault>
-        ensures outcome { IfOk result (IsOutcome k entry.now) }
-        ensures no_node { self.now ≤ k → result ≡ Err NoNode }
-        ensures only_apart { k < self.now → IsOkUnless result Apart }
+        ensures seen { IsPrefixOf self.old.seen self.new.seen }
+        ensures nodes { self.new.node_count ≡ self.old.node_count }
+        ensures outcome { IfOk result (IsOutcome self.new.seen k entry.now) }
+        ensures no_node { self.old.node_count ≤ k → result ≡ Err NoNode }
+        ensures only_apart { k < self.old.node_count → IsOkUnless result Apart }
     {
         for yielded in 0..yields {
             if yielded % YIELDS_PER_QUERY == 0 {
@@ -120,10 +168,17 @@ impl<G: Gate, K: Keep<Carried>> Desk<G, K> {
     }
 
     /// Returns the outcome of the entry at node `k`, if it is known there.
-    fn outcome<R: Wait>(&self, rt: &R, k: u8, entry: &Entry) -> Result<Option<Verdict>, StepFault>
-        ensures outcome { IfOk result (IsOutcome k entry.now) }
-        ensures no_node { self.now ≤ k → result ≡ Err NoNode }
-        ensures only_apart { k < self.now → IsOkUnless result Apart }
+    fn outcome<R: Wait>(
+        &mut self,
+        rt: &R,
+        k: u8,
+        entry: &Entry,
+    ) -> Result<Option<Verdict>, StepFault>
+        ensures seen { IsPrefixOf self.old.seen self.new.seen }
+        ensures nodes { self.new.node_count ≡ self.old.node_count }
+        ensures outcome { IfOk result (IsOutcome self.new.seen k entry.now) }
+        ensures no_node { self.old.node_count ≤ k → result ≡ Err NoNode }
+        ensures only_apart { k < self.old.node_count → IsOkUnless result Apart }
     {
         self.ask(rt, k, |cell| outcome_on(cell, entry))
     }

@@ -1,4 +1,5 @@
 //! The thread of a node.
+use crate::book::Naming;
 use crate::shared_nodes::SharedNodes;
 use crate::shared_switch::Hint;
 use crate::weather::{Fate, Weather};
@@ -14,11 +15,12 @@ use world::Carried;
 /// as the weather says. The node's and the switch's lock are taken once for all of them, and their
 /// changes are one commit. The channel carries the packets' numbers alone.
 pub(crate) fn run_node<
+    J: Naming + Sync + Drop,
     G: Gate + Sync + Drop,
     K: Keep<Carried> + Drop,
     W: Weather + Drop,
     R: Threads + Wait + Sync + Drop,
->(rt: R, shared: Arc<SharedNodes<G, K>>, k: u8, mut weather: W, hints: Receiver<u64>) {
+>(rt: R, shared: Arc<SharedNodes<J, G, K>>, k: u8, mut weather: W, hints: Receiver<u64>) {
     let mut packets = Vec::new(shared.alloc);
     for _ in rt.forever() {
         let Ok(first) = hints.recv(&rt) else {

@@ -46,7 +46,7 @@ seven = decimal_digit 7 (omega arith)
 -- a node that leads at 3.0, has promised a ballot of this round, and learned five entries of seven
 status : ℕ → Bool → NodeStatus
 status promised down = record {
-  state = record { role = Leading (record { round = 3; node = 0 }) 7; promise = record { round = promised; node = 0 }; log_len = 5; top = 7; waiting = 0 };
+  state = record { role = Leading (record { round = 3; node = 0 }) 7; promise = record { round = promised; node = 0 }; log_len = 5; top = 7; accepted = 7; waiting = 0 };
   applied = 5;
   is_down = down;
 }

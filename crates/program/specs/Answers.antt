@@ -1,10 +1,12 @@
--- The answers to questions about a label in the library of a node.
+-- The answers to questions about a label in the library of a node, and which of two nodes is ahead.
 -- Source: this project's own forms.
 -- The code asks the library, writes the lines of the answer, and counts them.
 use Rattle.std.specs.Prelude.{◌≡◌, ℕ, List, Bool, false, true, codes, flat_map, Option}
 use Rattle.library.specs.Words.{Name, Database}
 use Rattle.library.specs.Queries.{IsTrace, IsUsage, IsTreeOf}
 use Rattle.verify.specs.Derivations.{Derivation}
+use Rattle.cluster.specs.declared.compare.Ahead.{Ahead}
+use Rattle.cluster.specs.declared.compare.Ahead.TheVariants.{First, Same, Second}
 use Rattle.commands.specs.declared.node_question.LabelQuestionKind.{LabelQuestionKind}
 use Rattle.commands.specs.declared.node_question.LabelQuestionKind.TheVariants.{Find, Proof, Show, Trace, Tree, Usage, UsageAll}
 use Rattle.questions.specs.Searches.{ArePatternLines}
@@ -36,3 +38,9 @@ IsLabelAnswer S Show label text =
     (description : Option (List ℕ)) × (block : List ℕ) × IsShown S label description block
     × (text ≡ counted_lines_text (codes "show") block)
 IsLabelAnswer S Proof label text = Unit {0}
+
+-- the line that says which of two nodes has the library with more statements
+abbrev pub ahead_line : Ahead → List ℕ
+ahead_line First = codes "first\n"
+ahead_line Same = codes "same\n"
+ahead_line Second = codes "second\n"

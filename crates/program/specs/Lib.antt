@@ -1,3 +1,4 @@
 pub mod Answers
+pub mod Played
 pub mod Stored
 pub mod Recovery

@@ -10,6 +10,8 @@ use Rattle.synod.specs.declared.ballot.Ballot.{Ballot}
 use Rattle.synod.specs.declared.proposer.Role.{Role}
 use Rattle.synod.specs.declared.proposer.Role.TheVariants.{Idle, Preparing, Leading}
 use Rattle.nodes.specs.Questions.{IsHealth}
+use Rattle.nodes.specs.Words.{IsPrefixOf}
+use Rattle.nodes.specs.declared.moment.Moment.{Moment}
 use Rattle.world.specs.declared.health.Health.{Health}
 use Rattle.world.specs.declared.health.NodeStatus.{NodeStatus}
 use Rattle.program.specs.declared.recovery.Recovered.{Recovered}
@@ -56,16 +58,25 @@ abbrev pub AreApplied : ℕ → ℕ → List NodeStatus → Type 0
 AreApplied k entries nodes =
     (option_and_then entries_led (slice_get nodes k) ≡ Some entries) × (list_all (has_applied entries) nodes ≡ true)
 
--- there was a moment at which node k led, and each node that is up had applied what it proposed
-abbrev pub WereApplied : ℕ → ℕ → ℕ → Type 0
-WereApplied n k entries = (health : Health) × IsHealth n health × AreApplied k entries health.nodes.items
+-- in a part of the call this was the health of the n nodes; the desk had seen `old` of the history
+-- before the call, and has seen `new` after it
+pub record WasHealth (old new : List Moment) (n : ℕ) (health : Health) : Type 0 where
+  pub first : List Moment
+  pub later : IsPrefixOf old first
+  pub last : List Moment
+  pub earlier : IsPrefixOf last new
+  pub is_health : IsHealth first last n health
+
+-- node k led in a part of the call, and each node that is up had applied what it proposed
+abbrev pub WereApplied : List Moment → List Moment → ℕ → ℕ → ℕ → Type 0
+WereApplied old new n k entries = (health : Health) × WasHealth old new n health × AreApplied k entries health.nodes.items
 
 -- what is found of n nodes with these weights: that no node has an entry, or that some node led and
 -- each node that is up had applied what it proposed; that the nodes that are up are no quorum
-abbrev pub IsFound : ℕ → List ℕ → Recovered → Type 0
-IsFound n weights (Entries entries) =
-    ((health : Health) × IsHealth n health × (are_new health.nodes.items ≡ true) × (entries ≡ 0))
-    ⊎ ((k : ℕ) × WereApplied n k entries)
-IsFound n weights NoQuorum =
-    (health : Health) × IsHealth n health × (are_quorum_up weights health.nodes.items ≡ false)
-IsFound n weights Unfinished = Unit {0}
+abbrev pub IsFound : List Moment → List Moment → ℕ → List ℕ → Recovered → Type 0
+IsFound old new n weights (Entries entries) =
+    ((health : Health) × WasHealth old new n health × (are_new health.nodes.items ≡ true) × (entries ≡ 0))
+    ⊎ ((k : ℕ) × WereApplied old new n k entries)
+IsFound old new n weights NoQuorum =
+    (health : Health) × WasHealth old new n health × (are_quorum_up weights health.nodes.items ≡ false)
+IsFound old new n weights Unfinished = Unit {0}

@@ -1,11 +1,14 @@
 //! Answers about a node, asked at a desk: the calls of `nodes` by which any thread asks the nodes
 //! that `serve` starts.
-ghost use Rattle.std.specs.Prelude.{◌≡◌, ◌++◌, ◌≤◌, ℕ, List, Err, IfOk, OnOk, codes, length, option_and_then};
+ghost use Rattle.std.specs.Prelude.{◌≡◌, ◌++◌, ◌≤◌, ◌⊎◌, ℕ, List, Err, IfOk, OnOk, codes, length, option_and_then};
 ghost use Rattle.std.specs.Prelude.{option_map, slice_get, string_bytes, vec_len, if◌then◌else◌};
 ghost use Rattle.cluster.specs.Cell.{Cell};
+ghost use Rattle.cluster.specs.declared.compare.Ahead.{Ahead};
 ghost use Rattle.net.specs.declared.event.Event.{Event as TakenEvent};
 ghost use Rattle.world.specs.declared.carried.Carried.{Carried as TakenEntry};
-ghost use Rattle.nodes.specs.Questions.{IsHealth, IsHistory, IsNodeStatus, IsOfNode};
+ghost use Rattle.nodes.specs.Desk.{IsCompared};
+ghost use Rattle.nodes.specs.Questions.{IsHealth, IsHistory, IsNodeStatus};
+ghost use Rattle.nodes.specs.Shared.{IsNodeCell};
 ghost use Rattle.world.specs.declared.health.Health.{Health};
 ghost use Rattle.world.specs.declared.health.NodeStatus.{NodeStatus};
 ghost use Rattle.printed.specs.Counted.{carried_log_text};
@@ -13,7 +16,7 @@ ghost use Rattle.printed.specs.Printed.{export_text};
 ghost use Rattle.printed.specs.Healths.{health_text};
 ghost use Rattle.printed.specs.States.{state_text};
 ghost use Rattle.event_lines.specs.EventLines.{counted_event_lines};
-ghost use Rattle.program.specs.Answers.{IsLabelAnswer};
+ghost use Rattle.program.specs.Answers.{IsLabelAnswer, ahead_line};
 ghost use Rattle.program.specs.Stored.{store_text};
 
 use crate::node_answers::{ahead_line, label_answer};
@@ -26,6 +29,7 @@ use event_lines::push_events;
 use keep_folders::{push_damaged_line, push_kept_line};
 use library::Entry;
 use net::StepFault;
+use nodes::Naming;
 use printed::{push_carried_log, push_export, push_health, push_state};
 use questions::Fault;
 use std::alloc::{AllocError, Global};
@@ -36,10 +40,10 @@ use world::{Carried, NodeStatus};
 
 /// A desk at which lines are answered, and the allocator of the answers.
 #[derive(Drop)]
-pub struct AnsweringDesk<'a, R: Wait, K: Keep<Carried>, B: FileSizes, E: Write> {
+pub struct AnsweringDesk<'a, J: Naming, R: Wait, K: Keep<Carried>, B: FileSizes, E: Write> {
     pub rt: &'a R,
     pub alloc: Global,
-    pub desk: &'a NodesDesk<K>,
+    pub desk: NodesDesk<J, K>,
     pub sizes: &'a B,
     pub stored: &'a StoredNodes,
     pub stderr: &'a mut E,
@@ -48,7 +52,14 @@ pub struct AnsweringDesk<'a, R: Wait, K: Keep<Carried>, B: FileSizes, E: Write> 
     pub known: [u32; MAX_NODES],
 }
 
-impl<R: Wait, K: Keep<Carried>, B: FileSizes, E: Write> AnsweringDesk<'_, R, K, B, E> {
+impl<J: Naming, R: Wait, K: Keep<Carried>, B: FileSizes, E: Write> AnsweringDesk<
+    '_,
+    J,
+    R,
+    K,
+    B,
+    E,
+> {
     /// Restarts a node.
     pub fn restart(&mut self, node: u8) -> Result<(), StepFault> {
         self.desk.restart(self.rt, node)?;
@@ -79,10 +90,10 @@ impl<R: Wait, K: Keep<Carried>, B: FileSizes, E: Write> AnsweringDesk<'_, R, K, 
 
     /// Appends the bytes of a node's files, its promise, at how many slots it accepted an entry,
     /// and `good` or `down`; of a damaged node why it is.
-    pub fn push_store(&self, node: u8, text: &mut Vec<u8>) -> Result<(), Fault>
-        ensures { OnOk result ((status : NodeStatus) × (bytes : ℕ) × IsNodeStatus node status
+    pub fn push_store(&mut self, node: u8, text: &mut Vec<u8>) -> Result<(), Fault>
+        ensures { OnOk result ((status : NodeStatus) × (bytes : ℕ) × IsNodeStatus self.new.desk.seen node status
             × (text.new.items ≡ text.old.items ++ store_text bytes status
-            (option_and_then (λ d. option_map (λ s. string_bytes s) d) (slice_get self.now.stored.now.damages.items node)))) }
+            (option_and_then (λ d. option_map (λ s. string_bytes s) d) (slice_get self.old.stored.now.damages.items node)))) }
     {
         let status = self.desk.node_status(self.rt, node)?;
         let bytes = self.sizes.bytes(node)?;
@@ -90,8 +101,8 @@ impl<R: Wait, K: Keep<Carried>, B: FileSizes, E: Write> AnsweringDesk<'_, R, K, 
     }
 
     /// Appends the statements of a node's library.
-    pub fn push_export(&self, node: u8, text: &mut Vec<u8>) -> Result<(), Fault>
-        ensures { OnOk result ((cell : Cell) × IsOfNode node cell
+    pub fn push_export(&mut self, node: u8, text: &mut Vec<u8>) -> Result<(), Fault>
+        ensures { OnOk result ((cell : Cell) × IsNodeCell self.new.desk.seen node cell
             × (text.new.items ≡ text.old.items ++ export_text cell.node_library.library.statements)) }
     {
         let alloc = self.alloc;
@@ -102,8 +113,8 @@ impl<R: Wait, K: Keep<Carried>, B: FileSizes, E: Write> AnsweringDesk<'_, R, K, 
     }
 
     /// Appends the entries that a node took over from its log.
-    pub fn push_log(&self, node: u8, text: &mut Vec<u8>) -> Result<(), Fault>
-        ensures { OnOk result ((cell : Cell) × IsOfNode node cell
+    pub fn push_log(&mut self, node: u8, text: &mut Vec<u8>) -> Result<(), Fault>
+        ensures { OnOk result ((cell : Cell) × IsNodeCell self.new.desk.seen node cell
             × (text.new.items ≡ text.old.items ++ carried_log_text cell.entries)) }
     {
         let alloc = self.alloc;
@@ -112,8 +123,8 @@ impl<R: Wait, K: Keep<Carried>, B: FileSizes, E: Write> AnsweringDesk<'_, R, K, 
     }
 
     /// Appends the state of a node.
-    pub fn push_state(&self, node: u8, text: &mut Vec<u8>) -> Result<(), Fault>
-        ensures { OnOk result ((status : NodeStatus) × IsNodeStatus node status
+    pub fn push_state(&mut self, node: u8, text: &mut Vec<u8>) -> Result<(), Fault>
+        ensures { OnOk result ((status : NodeStatus) × IsNodeStatus self.new.desk.seen node status
             × (text.new.items ≡ text.old.items
             ++ state_text status.state status.applied status.is_down)) }
     {
@@ -123,9 +134,10 @@ impl<R: Wait, K: Keep<Carried>, B: FileSizes, E: Write> AnsweringDesk<'_, R, K, 
 
     /// Appends the state of each node, with how many bytes its files have if it has files, and how
     /// many events are taken.
-    pub fn push_health(&self, text: &mut Vec<u8>) -> Result<(), Fault>
-        ensures { OnOk result ((health : Health) × (stored : List ℕ) × IsHealth self.now.desk.now health
-            × (length stored ≡ self.now.stored.now.file_count)
+    pub fn push_health(&mut self, text: &mut Vec<u8>) -> Result<(), Fault>
+        ensures { OnOk result ((health : Health) × (stored : List ℕ)
+            × IsHealth self.old.desk.seen self.new.desk.seen self.old.desk.node_count health
+            × (length stored ≡ self.old.stored.now.file_count)
             × (text.new.items ≡ text.old.items ++ health_text health stored)) }
     {
         let health = self.desk.health(self.rt)?;
@@ -146,11 +158,12 @@ impl<R: Wait, K: Keep<Carried>, B: FileSizes, E: Write> AnsweringDesk<'_, R, K, 
 
     /// Appends the answer to a question about a label of a node's library.
     pub fn push_label_answer(
-        &self,
+        &mut self,
         question: &NodeQuestion,
         text: &mut Vec<u8>,
     ) -> Result<(), Fault>
-        ensures { OnOk result ((cell : Cell) × IsOfNode question.now.node cell × (answer : List ℕ)
+        ensures { OnOk result ((cell : Cell)
+            × IsNodeCell self.new.desk.seen question.now.node cell × (answer : List ℕ)
             × IsLabelAnswer cell.node_library.library.statements question.now.kind question.now.label answer
             × (text.new.items ≡ text.old.items ++ answer)) }
     {
@@ -162,7 +175,7 @@ impl<R: Wait, K: Keep<Carried>, B: FileSizes, E: Write> AnsweringDesk<'_, R, K, 
     }
 
     /// Appends why a node refused an entry.
-    pub fn push_why(&self, entry_id: NodeEntryId, text: &mut Vec<u8>) -> Result<(), Fault> {
+    pub fn push_why(&mut self, entry_id: NodeEntryId, text: &mut Vec<u8>) -> Result<(), Fault> {
         let alloc = self.alloc;
         let decision = self.desk.ask(self.rt, entry_id.node, |cell| {
             decision_at(alloc, cell, entry_id)
@@ -171,14 +184,18 @@ impl<R: Wait, K: Keep<Carried>, B: FileSizes, E: Write> AnsweringDesk<'_, R, K, 
     }
 
     /// Appends which of two nodes has the library with more statements.
-    pub fn push_compared(&self, pair: NodePair, text: &mut Vec<u8>) -> Result<(), Fault> {
+    pub fn push_compared(&mut self, pair: NodePair, text: &mut Vec<u8>) -> Result<(), Fault>
+        ensures { OnOk result ((ahead : Ahead)
+            × ((pair.first ≡ pair.second) ⊎ IsCompared self.new.desk.seen pair.first pair.second ahead)
+            × (text.new.items ≡ text.old.items ++ ahead_line ahead)) }
+    {
         let ahead = self.desk.compare(self.rt, pair.first, pair.second)?;
         Ok(text.extend_from_slice(ahead_line(ahead))?)
     }
 
     /// Appends the history so far, as lines of `play` after their count.
-    pub fn push_events(&self, text: &mut Vec<u8>) -> Result<(), Fault>
-        ensures { OnOk result ((events : List (TakenEvent TakenEntry)) × IsHistory events
+    pub fn push_events(&mut self, text: &mut Vec<u8>) -> Result<(), Fault>
+        ensures { OnOk result ((events : List (TakenEvent TakenEntry)) × IsHistory self.new.desk.seen events
             × (text.new.items ≡ text.old.items ++ counted_event_lines events)) }
     {
         let events = self.desk.history(self.rt)?;

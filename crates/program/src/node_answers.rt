@@ -4,7 +4,7 @@ ghost use Rattle.cluster.specs.declared.compare.Ahead.TheVariants.{First, Same, 
 ghost use Rattle.commands.specs.declared.node_question.LabelQuestionKind.TheVariants.{Find, Show};
 ghost use Rattle.commands.specs.declared.node_question.LabelQuestionKind.TheVariants.{Trace, Tree};
 ghost use Rattle.printed.specs.Counted.{counted_lines_text};
-ghost use Rattle.program.specs.Answers.{IsLabelAnswer, IsUsageAnswer, labels_text};
+ghost use Rattle.program.specs.Answers.{IsLabelAnswer, IsUsageAnswer, ahead_line, labels_text};
 
 use crate::added_texts::description_of;
 use cluster::Ahead;
@@ -155,7 +155,9 @@ pub fn compare_libraries(one: &Library, other: &Library) -> Ahead
 }
 
 /// Returns the line that says which node is ahead.
-pub fn ahead_line(ahead: Ahead) -> &'static [u8] {
+pub fn ahead_line(ahead: Ahead) -> &'static [u8]
+    ensures { result.now ≡ ahead_line ahead }
+{
     match ahead {
         Ahead::First => b"first\n",
         Ahead::Same => b"same\n",

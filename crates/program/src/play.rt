@@ -1,6 +1,9 @@
 //! The command `play`: a script drives nodes, event by event.
 ghost use Rattle.std.specs.Prelude.{◌≡◌, ◌++◌, OnOk};
 ghost use Rattle.event_lines.specs.EventLines.{counted_event_lines};
+ghost use Rattle.program.specs.Played.{IsPlayed, event_of};
+ghost use Rattle.world.specs.Carried.{value_event};
+ghost use Rattle.world.specs.WorldView.{after_event};
 
 use crate::node_answers::{ahead_line, compare_libraries, label_answer};
 use crate::scripts::{AnswerLines, answer_lines, read_script};
@@ -54,11 +57,9 @@ impl AnswerLines<PlayLine> for World {
 }
 
 /// Carries out a line that `serve` has too, and appends its answer.
-fn answer_common_line(
-    world: &mut World,
-    line: CommonLine,
-    text: &mut Vec<u8>,
-) -> Result<(), Fault> {
+fn answer_common_line(world: &mut World, line: CommonLine, text: &mut Vec<u8>) -> Result<(), Fault>
+    ensures { OnOk result (IsPlayed (event_of line) world.old world.new) }
+{
     match line {
         CommonLine::Offer(offered) => {
             push_step(world, Event::Offer(offered.node, offered.entry), text)
@@ -135,6 +136,8 @@ fn push_history(world: &World, text: &mut Vec<u8>) -> Result<(), AllocError>
 }
 
 /// Plays an event, and appends how many packets were posted so far.
-fn push_step(world: &mut World, event: Event<Entry>, text: &mut Vec<u8>) -> Result<(), Fault> {
+fn push_step(world: &mut World, event: Event<Entry>, text: &mut Vec<u8>) -> Result<(), Fault>
+    ensures { OnOk result (world.new ≡ after_event world.old (value_event event)) }
+{
     Ok(push_ok(text, world.step(event)?)?)
 }

@@ -2,11 +2,13 @@
 ghost use Rattle.std.specs.Prelude.{◌≡◌, ◌≤◌, ◌<◌, ℕ, IfOk, IfSome, length, option_and_then};
 ghost use Rattle.std.specs.Prelude.{map, slice_get};
 ghost use Rattle.std.specs.List.{list_all};
+ghost use Rattle.nodes.specs.Words.{IsPrefixOf};
 ghost use Rattle.program.specs.Recovery.{AreApplied, IsFound, WereApplied, are_new, are_quorum_up};
 ghost use Rattle.program.specs.Recovery.{entries_led, has_applied, is_up, weight_up};
 
 use crate::served_nodes::NodesDesk;
 use net::StepFault;
+use nodes::Naming;
 use questions::Fault;
 use std::alloc::{AllocError, Global};
 use std::io::Write;
@@ -95,14 +97,15 @@ fn seconds_of<R: Clock>(rt: &R) -> u64 {
 /// until each node that is up has applied all that was chosen. `weights` are those of the nodes.
 ///
 /// Errors: those of `Desk::health` and `Desk::begin`; an allocation fails.
-pub fn recover<R: Wait + Clock, K: Keep<Carried>, E: Write>(
+#[tactic(auto, using(nodes::proofs::PrefixLemmas::prefix_trans))]
+pub fn recover<J: Naming, R: Wait + Clock, K: Keep<Carried>, E: Write>(
     rt: &R,
-    desk: &NodesDesk<K>,
+    desk: &mut NodesDesk<J, K>,
     weights: Weights,
     progress: &mut Progress<'_, E>,
 ) -> Result<Recovered, Fault>
-    requires { desk.now ≡ length weights }
-    ensures { IfOk result (IsFound desk.now weights) }
+    requires { desk.old.node_count ≡ length weights }
+    ensures { IfOk result (IsFound desk.old.seen desk.new.seen desk.old.node_count weights) }
 {
     for _ballot in 0..MAX_BALLOTS {
         let health = desk.health(rt)?;
@@ -137,11 +140,14 @@ fn have_no_entries(nodes: &[NodeStatus]) -> bool
 }
 
 /// Has a node begin a ballot, unless its keep fails or it is down.
-fn begin_if_up<R: Wait, K: Keep<Carried>>(
+fn begin_if_up<J: Naming, R: Wait, K: Keep<Carried>>(
     rt: &R,
-    desk: &NodesDesk<K>,
+    desk: &mut NodesDesk<J, K>,
     node: u8,
-) -> Result<(), StepFault> {
+) -> Result<(), StepFault>
+    ensures seen { IsPrefixOf desk.old.seen desk.new.seen }
+    ensures nodes { desk.new.node_count ≡ desk.old.node_count }
+{
     match desk.begin(rt, node) {
         Err(StepFault::Device | StepFault::Down) => Ok(()),
         begun => begun,
@@ -198,13 +204,17 @@ fn weight_up(weights: Weights, nodes: &[NodeStatus], k: u8) -> u8
 
 /// Waits until each node that is up has applied what the leader proposed, and returns how many
 /// entries these are; `None` if nothing is learned for a while.
-fn wait_until_applied<R: Wait + Clock, K: Keep<Carried>, E: Write>(
+#[tactic(auto, using(nodes::proofs::PrefixLemmas::prefix_trans))]
+fn wait_until_applied<J: Naming, R: Wait + Clock, K: Keep<Carried>, E: Write>(
     rt: &R,
-    desk: &NodesDesk<K>,
+    desk: &mut NodesDesk<J, K>,
     leader: u8,
     progress: &mut Progress<'_, E>,
 ) -> Result<Option<u32>, Fault>
-    ensures { IfOk result (λ found. IfSome found (λ entries. WereApplied desk.now leader entries)) }
+    ensures seen { IsPrefixOf desk.old.seen desk.new.seen }
+    ensures nodes { desk.new.node_count ≡ desk.old.node_count }
+    ensures applied { IfOk result (λ found. IfSome found
+        (λ entries. WereApplied desk.old.seen desk.new.seen desk.old.node_count leader entries)) }
 {
     let mut quiet = 0u32;
     let mut last = 0u64;

@@ -5,6 +5,7 @@ ghost use Rattle.library.specs.declared.listed.Listed.{Listed};
 ghost use Rattle.net.specs.declared.fault.StepFault.TheVariants.{NoNode, Apart};
 ghost use Rattle.nodes.specs.Adding.{IsOutcome};
 ghost use Rattle.nodes.specs.Desk.{IsListed, IsStatus};
+ghost use Rattle.nodes.specs.Words.{IsPrefixOf};
 ghost use Rattle.printed.specs.Printed.{list_text};
 
 use crate::desk_answers::AnsweringDesk;
@@ -21,10 +22,12 @@ use commands::{
 use keep_folders::{FolderTerms, KeepFolder};
 use library::Verdict;
 use net::StepFault;
+use nodes::{Naming, Opened};
 use printed::{push_counted_lines, push_list, push_verdict_line};
 use questions::{Fault, print};
 use std::alloc::Global;
 use std::io::{Read, Write};
+use std::marker::Brand;
 use std::sync::Wait;
 use std::thread;
 use std::thread::Threads;
@@ -65,7 +68,7 @@ pub fn serve<
     }
 }
 
-/// Serves over the keeps of a folder.
+/// Serves over the keeps of a folder, and opens a history of what happens.
 fn serve_in<
     R: AllocGlobal + Threads + Wait + Clock + Copy + Send + Sync + Drop + 'static,
     I: Read,
@@ -80,17 +83,21 @@ fn serve_in<
     stderr: &mut E,
     folder: &mut F,
 ) -> Result<u8, Fault> {
+    let opened = Opened::new();
     if options.is_live {
-        let mut session = Session::new(rt.alloc(), input)?;
-        return serve_lines(rt, options, &mut session, output, stderr, folder);
+        let mut lines = Session::new(rt.alloc(), input)?;
+        return serve_lines::<Brand, R, _, O, E, F>(
+            rt, opened, options, &mut lines, output, stderr, folder,
+        );
     }
-    let mut script = Script::read(rt.alloc(), input)?;
-    serve_lines(rt, options, &mut script, output, stderr, folder)
+    let mut lines = Script::read(rt.alloc(), input)?;
+    serve_lines::<Brand, R, _, O, E, F>(rt, opened, options, &mut lines, output, stderr, folder)
 }
 
 /// Starts the nodes, prints the answers to the lines, and stops the nodes; returns the exit status.
 /// Every thread is joined, even if a write fails, unless `stop_nodes` runs out of memory.
 fn serve_lines<
+    J: Naming + Send + Sync + Drop + 'static,
     R: AllocGlobal + Threads + Wait + Clock + Copy + Send + Sync + Drop + 'static,
     S: LineSource<ServedLine>,
     O: Write,
@@ -98,12 +105,15 @@ fn serve_lines<
     F: KeepFolder<Carried>,
 >(
     rt: &R,
+    opened: Opened,
     options: &ServeOptions<'_>,
     lines: &mut S,
     output: &mut O,
     stderr: &mut E,
     folder: &mut F,
-) -> Result<u8, Fault> {
+) -> Result<u8, Fault>
+    requires { opened ≡ J.book }
+{
     let alloc = rt.alloc();
     let path = options.store.unwrap_or("");
     let terms = FolderTerms {
@@ -124,7 +134,7 @@ fn serve_lines<
         damages,
     };
     tell_damages(alloc, stderr, path, &stored)?;
-    let mut nodes = start_nodes(rt, alloc, options, keeps)?;
+    let mut nodes: Nodes<J, F::Keep> = start_nodes(rt, alloc, opened, options, keeps)?;
     let answered = match tell_recovered(rt, &nodes, options, stderr) {
         Ok(()) => answer_at_desk(rt, &nodes, folder, &stored, lines, output, stderr),
         Err(fault) => Err(fault),
@@ -137,20 +147,20 @@ fn serve_lines<
 }
 
 /// Has the nodes of a folder learn what was chosen before, and says how many entries these are.
-fn tell_recovered<R: Wait + Clock, K: Keep<Carried>, E: Write>(
+fn tell_recovered<J: Naming, R: Wait + Clock, K: Keep<Carried>, E: Write>(
     rt: &R,
-    nodes: &Nodes<K>,
+    nodes: &Nodes<J, K>,
     options: &ServeOptions<'_>,
     stderr: &mut E,
 ) -> Result<(), Fault>
-    requires { nodes.now ≡ length options.now.weights }
+    requires { nodes.now.node_count ≡ length options.now.weights }
 {
     let Some(path) = options.store else {
         return Ok(());
     };
-    let desk = nodes.desk()?;
+    let mut desk = nodes.desk()?;
     let mut progress = Progress::begin(rt, stderr, path);
-    let found = recover(rt, &desk, options.weights, &mut progress)?;
+    let found = recover(rt, &mut desk, options.weights, &mut progress)?;
     progress.tell_found(rt, options.weights.count(), found);
     Ok(())
 }
@@ -158,6 +168,7 @@ fn tell_recovered<R: Wait + Clock, K: Keep<Carried>, E: Write>(
 /// Prints the answers to the lines at a desk of the nodes, and returns the exit status.
 fn answer_at_desk<
     'a,
+    J: Naming,
     R: AllocGlobal + Wait,
     S: LineSource<ServedLine>,
     O: Write,
@@ -165,7 +176,7 @@ fn answer_at_desk<
     F: KeepFolder<Carried>,
 >(
     rt: &'a R,
-    nodes: &Nodes<F::Keep>,
+    nodes: &Nodes<J, F::Keep>,
     folder: &'a F,
     stored: &'a StoredNodes,
     lines: &mut S,
@@ -177,7 +188,7 @@ fn answer_at_desk<
     let mut answering = AnsweringDesk {
         rt,
         alloc: rt.alloc(),
-        desk: &desk,
+        desk,
         sizes: &sizes,
         stored,
         stderr,
@@ -188,6 +199,7 @@ fn answer_at_desk<
 
 /// Prints the answers to the lines, and returns the exit status.
 fn answer_each<
+    J: Naming,
     R: Wait,
     K: Keep<Carried>,
     B: FileSizes,
@@ -195,16 +207,18 @@ fn answer_each<
     S: LineSource<ServedLine>,
     O: Write,
 >(
-    answering: &mut AnsweringDesk<'_, R, K, B, E>,
+    answering: &mut AnsweringDesk<'_, J, R, K, B, E>,
     lines: &mut S,
     output: &mut O,
 ) -> Result<u8, Fault> {
     let alloc = answering.alloc;
-    answer_lines::<ServedLine, AnsweringDesk<'_, R, K, B, E>, S, O>(alloc, answering, lines, output)
+    answer_lines::<ServedLine, AnsweringDesk<'_, J, R, K, B, E>, S, O>(
+        alloc, answering, lines, output,
+    )
 }
 
-impl<R: Wait, K: Keep<Carried>, B: FileSizes, E: Write> AnswerLines<ServedLine>
-    for AnsweringDesk<'_, R, K, B, E> {
+impl<J: Naming, R: Wait, K: Keep<Carried>, B: FileSizes, E: Write> AnswerLines<ServedLine>
+    for AnsweringDesk<'_, J, R, K, B, E> {
     fn answer(&mut self, line: ServedLine, text: &mut Vec<u8>) -> Result<(), Fault> {
         match line? {
             SessionLine::Serve(line) => answer_serve_line(self, line, text),
@@ -221,8 +235,8 @@ fn push_help(alloc: Global, text: &mut Vec<u8>) -> Result<(), Fault> {
 }
 
 /// Carries out a line of a script, and appends its answer.
-fn answer_serve_line<R: Wait, K: Keep<Carried>, B: FileSizes, E: Write>(
-    answering: &mut AnsweringDesk<'_, R, K, B, E>,
+fn answer_serve_line<J: Naming, R: Wait, K: Keep<Carried>, B: FileSizes, E: Write>(
+    answering: &mut AnsweringDesk<'_, J, R, K, B, E>,
     line: ServeLine,
     text: &mut Vec<u8>,
 ) -> Result<(), Fault> {
@@ -232,13 +246,13 @@ fn answer_serve_line<R: Wait, K: Keep<Carried>, B: FileSizes, E: Write>(
             answering.tell_recovering(entry_id.node);
             Ok(push_verdict_line(
                 text,
-                wait_for_verdict(answering.rt, answering.desk, entry_id)?,
+                wait_for_verdict(answering.rt, &mut answering.desk, entry_id)?,
                 b"unknown",
             )?)
         }
         ServeLine::Add(offered) => {
             answering.tell_recovering(offered.node);
-            let outcome = add_until_decided(answering.rt, answering.desk, &offered)?;
+            let outcome = add_until_decided(answering.rt, &mut answering.desk, &offered)?;
             Ok(push_verdict_line(text, outcome, b"unknown")?)
         }
         ServeLine::Health => answering.push_health(text),
@@ -249,31 +263,34 @@ fn answer_serve_line<R: Wait, K: Keep<Carried>, B: FileSizes, E: Write>(
 /// Submits an entry at a node until its verdict is known there, and returns the verdict: `Repeat`
 /// if another entry was first under its author and serial number, and `None` if none is known after
 /// the tries of `Desk::add`.
-fn add_until_decided<R: Wait, K: Keep<Carried>>(
+fn add_until_decided<J: Naming, R: Wait, K: Keep<Carried>>(
     rt: &R,
-    desk: &NodesDesk<K>,
+    desk: &mut NodesDesk<J, K>,
     offered: &OfferedEntry,
 ) -> Result<Option<Verdict>, StepFault>
-    ensures outcome { IfOk result (IsOutcome offered.now.node offered.now.entry) }
-    ensures no_node { desk.now ≤ offered.now.node → IsErr result }
+    ensures outcome { IfOk result (IsOutcome desk.new.seen offered.now.node offered.now.entry) }
+    ensures no_node { desk.old.node_count ≤ offered.now.node → IsErr result }
 {
     desk.add(rt, offered.node, &offered.entry)
 }
 
 /// Carries out a line that `play` has too, and appends its answer.
-fn answer_common_line<R: Wait, K: Keep<Carried>, B: FileSizes, E: Write>(
-    answering: &mut AnsweringDesk<'_, R, K, B, E>,
+fn answer_common_line<J: Naming, R: Wait, K: Keep<Carried>, B: FileSizes, E: Write>(
+    answering: &mut AnsweringDesk<'_, J, R, K, B, E>,
     line: CommonLine,
     text: &mut Vec<u8>,
 ) -> Result<(), Fault> {
-    let (rt, desk) = (answering.rt, answering.desk);
+    let rt = answering.rt;
     match line {
-        CommonLine::Offer(offered) => desk.submit(rt, offered.node, offered.entry)?,
-        CommonLine::Begin { node } => desk.begin(rt, node)?,
+        CommonLine::Offer(offered) => answering.desk.submit(rt, offered.node, offered.entry)?,
+        CommonLine::Begin { node } => answering.desk.begin(rt, node)?,
         CommonLine::Restart { node } => answering.restart(node)?,
-        CommonLine::List { node } => return Ok(push_node_list(rt, desk, node, text)?),
+        CommonLine::List { node } => {
+            return Ok(push_node_list(rt, &mut answering.desk, node, text)?);
+        }
         CommonLine::Status(entry_id) => {
-            return Ok(push_verdict_line(text, status(rt, desk, entry_id)?, b"unknown")?);
+            let verdict = status(rt, &mut answering.desk, entry_id)?;
+            return Ok(push_verdict_line(text, verdict, b"unknown")?);
         }
         CommonLine::Export { node } => return answering.push_export(node, text),
         CommonLine::Log { node } => return answering.push_log(node, text),
@@ -287,15 +304,15 @@ fn answer_common_line<R: Wait, K: Keep<Carried>, B: FileSizes, E: Write>(
 }
 
 /// Appends the assertions of the node's library.
-fn push_node_list<R: Wait, K: Keep<Carried>>(
+fn push_node_list<J: Naming, R: Wait, K: Keep<Carried>>(
     rt: &R,
-    desk: &NodesDesk<K>,
+    desk: &mut NodesDesk<J, K>,
     node: u8,
     text: &mut Vec<u8>,
 ) -> Result<(), StepFault>
-    ensures listed { OnOk result ((list : List Listed) × IsListed node list
+    ensures listed { OnOk result ((list : List Listed) × IsListed desk.new.seen node list
         × (text.new.items ≡ text.old.items ++ list_text list)) }
-    ensures no_node { desk.now ≤ node → result ≡ Err NoNode }
+    ensures no_node { desk.old.node_count ≤ node → result ≡ Err NoNode }
 {
     let list = desk.list(rt, node)?;
     push_list(text, list.as_slice())?;
@@ -303,28 +320,33 @@ fn push_node_list<R: Wait, K: Keep<Carried>>(
 }
 
 /// Returns the verdict of the node's library on the entry, or `None` if it is not decided there.
-fn status<R: Wait, K: Keep<Carried>>(
+fn status<J: Naming, R: Wait, K: Keep<Carried>>(
     rt: &R,
-    desk: &NodesDesk<K>,
+    desk: &mut NodesDesk<J, K>,
     entry_id: NodeEntryId,
 ) -> Result<Option<Verdict>, StepFault>
-    ensures status { IfOk result (IsStatus entry_id.node entry_id.author entry_id.serial) }
-    ensures no_node { desk.now ≤ entry_id.node → result ≡ Err NoNode }
-    ensures only_apart { entry_id.node < desk.now → IsOkUnless result Apart }
+    ensures seen { IsPrefixOf desk.old.seen desk.new.seen }
+    ensures nodes { desk.new.node_count ≡ desk.old.node_count }
+    ensures status { IfOk result (IsStatus desk.new.seen entry_id.node entry_id.author entry_id.serial) }
+    ensures no_node { desk.old.node_count ≤ entry_id.node → result ≡ Err NoNode }
+    ensures only_apart { entry_id.node < desk.old.node_count → IsOkUnless result Apart }
 {
     desk.status(rt, entry_id.node, entry_id.author, entry_id.serial)
 }
 
 /// Returns the verdict of the node's library on the entry as soon as it is known, or `None` if it
 /// is not known after `MAX_TURNS` turns.
-fn wait_for_verdict<R: Wait, K: Keep<Carried>>(
+#[tactic(auto, using(nodes::proofs::PrefixLemmas::prefix_trans))]
+fn wait_for_verdict<J: Naming, R: Wait, K: Keep<Carried>>(
     rt: &R,
-    desk: &NodesDesk<K>,
+    desk: &mut NodesDesk<J, K>,
     entry_id: NodeEntryId,
 ) -> Result<Option<Verdict>, StepFault>
-    ensures status { IfOk result (IsStatus entry_id.node entry_id.author entry_id.serial) }
-    ensures no_node { desk.now ≤ entry_id.node → result ≡ Err NoNode }
-    ensures only_apart { entry_id.node < desk.now → IsOkUnless result Apart }
+    ensures seen { IsPrefixOf desk.old.seen desk.new.seen }
+    ensures nodes { desk.new.node_count ≡ desk.old.node_count }
+    ensures status { IfOk result (IsStatus desk.new.seen entry_id.node entry_id.author entry_id.serial) }
+    ensures no_node { desk.old.node_count ≤ entry_id.node → result ≡ Err NoNode }
+    ensures only_apart { entry_id.node < desk.old.node_count → IsOkUnless result Apart }
 {
     for turn in 0..MAX_TURNS {
         if turn % TURNS_PER_QUERY == 0 {

@@ -5,7 +5,7 @@ ghost use Rattle.net.specs.declared.fault.StepFault.TheVariants.{Memory};
 use crate::served_weather::weathers;
 use commands::ServeOptions;
 use net::StepFault;
-use nodes::{Cluster, ClusterSetup, Desk, start};
+use nodes::{Cluster, ClusterSetup, Desk, Naming, Opened, start};
 use std::alloc::Global;
 use std::sync::{Arc, Wait};
 use std::thread::Threads;
@@ -16,24 +16,34 @@ use world::Carried;
 /// The greatest number of times that a cluster is asked again to stop after a failed allocation.
 const MAX_RETRIES: u32 = 1000;
 
-/// The nodes of one process, each with a keep. Contracts see of them only how many they are.
-pub type Nodes<K> = Cluster<OpenGate, K>;
+/// The nodes of one process, each with a keep. Contracts see how many they are, and what was seen of
+/// their history, which `J` names.
+pub type Nodes<J, K> = Cluster<J, OpenGate, K>;
 
-/// A desk of such nodes. Contracts see of it only how many nodes there are: `desk.now ≤ node`
-/// says that there is no such node.
-pub type NodesDesk<K> = Desk<OpenGate, K>;
+/// A desk of such nodes. Contracts see how many nodes there are, and what the desk has seen of their
+/// history.
+pub type NodesDesk<J, K> = Desk<J, OpenGate, K>;
 
-/// Starts a node for each weight, with its keep, as the options say; without a seed the weather is
-/// clear. The gate lets each thread pass at once.
+/// Starts a node for each weight, with its keep, as the options say, and records what happens in the
+/// history that was opened; without a seed the weather is clear. The gate lets each thread pass at
+/// once.
 ///
 /// Errors: `Memory` if an allocation fails or a thread cannot be started; then no thread is left
 /// running.
 pub fn start_nodes<
+    J: Naming + Send + Sync + Drop + 'static,
     R: Threads + Wait + Copy + Send + Sync + Drop + 'static,
     K: Keep<Carried> + Send + Drop + 'static,
->(rt: &R, alloc: Global, options: &ServeOptions<'_>, keeps: Vec<K>) -> Result<Nodes<K>, StepFault>
-    requires { vec_len keeps ≡ length options.now.weights }
-    ensures nodes { IfOk result (λ nodes. nodes ≡ length options.now.weights) }
+>(
+    rt: &R,
+    alloc: Global,
+    opened: Opened,
+    options: &ServeOptions<'_>,
+    keeps: Vec<K>,
+) -> Result<Nodes<J, K>, StepFault>
+    requires opened { opened ≡ J.book }
+    requires keeps { vec_len keeps ≡ length options.now.weights }
+    ensures nodes { IfOk result (λ nodes. nodes.node_count ≡ length options.now.weights) }
     ensures only_memory { IsOkUnless result Memory }
 {
     let Ok(gate) = Arc::new(alloc, OpenGate) else {
@@ -46,7 +56,7 @@ pub fn start_nodes<
         work_limit: options.work_limit,
         workers: PoolSize::new(options.workers.count),
     };
-    start(rt, alloc, &setup, gate, weathers, keeps)
+    start(rt, alloc, opened, &setup, gate, weathers, keeps)
 }
 
 /// Stops the nodes and joins their threads. If the allocation of their report fails, they are asked
@@ -54,11 +64,11 @@ pub fn start_nodes<
 ///
 /// Errors: `Stopped` if they were stopped before; `Memory` if each attempt fails, and then they
 /// keep running.
-pub fn stop_nodes<R: Threads + Wait, K: Keep<Carried>>(
+pub fn stop_nodes<J: Naming, R: Threads + Wait, K: Keep<Carried>>(
     rt: &R,
-    nodes: &mut Nodes<K>,
+    nodes: &mut Nodes<J, K>,
 ) -> Result<(), StepFault>
-    ensures { nodes.new ≡ nodes.old }
+    ensures { nodes.new.node_count ≡ nodes.old.node_count }
 {
     for _retry in 0..MAX_RETRIES {
         match nodes.stop(rt) {

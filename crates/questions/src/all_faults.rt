@@ -263,10 +263,13 @@ fn fault_lines(
 fn count_left_proofs(left_out: &[LeftOut]) -> usize
     ensures { result ≡ count_by (λ left. is_provable left.statement) left_out.now }
 {
-    left_out
-        .iter()
-        .filter(|left| is_provable(&left.statement))
-        .count()
+    let mut count = 0;
+    for left in left_out {
+        if is_provable(&left.statement) {
+            count += 1;
+        }
+    }
+    count
 }
 
 /// Returns the cause that is printed for a fault.

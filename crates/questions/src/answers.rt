@@ -88,10 +88,13 @@ pub fn push_proved(line: &mut Vec<u8>, all: usize, unproved: usize) -> Result<()
 pub fn count_of_proofs(statements: &[Stmt]) -> usize
     ensures { result ≡ count_by is_provable statements.now }
 {
-    statements
-        .iter()
-        .filter(|statement| is_provable(*statement))
-        .count()
+    let mut count = 0;
+    for statement in statements {
+        if is_provable(statement) {
+            count += 1;
+        }
+    }
+    count
 }
 
 /// Returns whether a statement is a `$p`.

@@ -1,11 +1,14 @@
 //! Two nodes apply an entry in parallel: each waits at a gate until the other has arrived there. A
 //! node's thread passes the gate of its cluster before it applies an entry.
+ghost use Rattle.std.specs.Prelude.{◌≡◌};
+
 use crate::three_nodes::{
     EntryKeep, is_added_by_all, same_weathers, start_three_nodes, submit_text,
 };
 use net::StepFault;
-use nodes::{Clear, Cluster, Desk};
+use nodes::{Clear, Cluster, Desk, Naming, Opened};
 use std::alloc::Global;
+use std::marker::Brand;
 use std::sync::atomic::{AtomicBool, Ordering};
 use std::sync::{Arc, Wait};
 use std::thread;
@@ -53,15 +56,17 @@ impl Gate for Rendezvous {
 
 #[test]
 fn gate_two_nodes(rt: HostRuntime) {
-    assert!(rt; two_nodes_wait(&rt, rt.alloc()) == Ok(true));
+    assert!(rt; two_nodes_wait::<Brand, _>(&rt, rt.alloc(), Opened::new()) == Ok(true));
 }
 
 /// Returns whether each of three nodes adds a text, and neither of the first two, which wait for
 /// each other at the gate, gives up waiting.
-fn two_nodes_wait<R: Threads + Wait + Clock + Copy + Send + Sync + Drop + 'static>(
-    rt: &R,
-    alloc: Global,
-) -> Result<bool, StepFault> {
+fn two_nodes_wait<
+    J: Naming + Send + Sync + Drop + 'static,
+    R: Threads + Wait + Clock + Copy + Send + Sync + Drop + 'static,
+>(rt: &R, alloc: Global, opened: Opened) -> Result<bool, StepFault>
+    requires { opened ≡ J.book }
+{
     let rendezvous = Rendezvous {
         first_arrived: AtomicBool::new(false),
         second_arrived: AtomicBool::new(false),
@@ -70,38 +75,46 @@ fn two_nodes_wait<R: Threads + Wait + Clock + Copy + Send + Sync + Drop + 'stati
     let Ok(gate) = Arc::new(alloc, rendezvous) else {
         return Err(StepFault::Memory);
     };
-    let added = three_nodes_add(rt, alloc, Arc::try_clone(&gate)?);
+    let added = three_nodes_add::<J, R>(rt, alloc, opened, Arc::try_clone(&gate)?);
     Ok(added? && !gate.timed_out.load(Ordering::SeqCst))
 }
 
 /// Returns whether three nodes with this gate add a text.
-fn three_nodes_add<R: Threads + Wait + Clock + Copy + Send + Sync + Drop + 'static>(
-    rt: &R,
-    alloc: Global,
-    gate: Arc<Rendezvous>,
-) -> Result<bool, StepFault> {
+fn three_nodes_add<
+    J: Naming + Send + Sync + Drop + 'static,
+    R: Threads + Wait + Clock + Copy + Send + Sync + Drop + 'static,
+>(rt: &R, alloc: Global, opened: Opened, gate: Arc<Rendezvous>) -> Result<bool, StepFault>
+    requires { opened ≡ J.book }
+{
     let weathers = same_weathers(alloc, Clear)?;
-    let mut cluster = start_three_nodes(rt, alloc, Weights::equal(3), gate, weathers)?;
+    let mut cluster: Cluster<J, Rendezvous, EntryKeep> = start_three_nodes(
+        rt,
+        alloc,
+        opened,
+        Weights::equal(3),
+        gate,
+        weathers,
+    )?;
     let added = adds_one(rt, alloc, &cluster);
     cluster.stop(rt)?;
     added
 }
 
 /// Returns whether each node of the cluster adds a text.
-fn adds_one<R: Wait + Clock>(
+fn adds_one<J: Naming, R: Wait + Clock>(
     rt: &R,
     alloc: Global,
-    cluster: &Cluster<Rendezvous, EntryKeep>,
+    cluster: &Cluster<J, Rendezvous, EntryKeep>,
 ) -> Result<bool, StepFault> {
-    let desk = cluster.desk()?;
-    adds_at(rt, alloc, &desk)
+    let mut desk = cluster.desk()?;
+    adds_at(rt, alloc, &mut desk)
 }
 
 /// Returns the same, with a desk of the cluster.
-fn adds_at<R: Wait + Clock>(
+fn adds_at<J: Naming, R: Wait + Clock>(
     rt: &R,
     alloc: Global,
-    desk: &Desk<Rendezvous, EntryKeep>,
+    desk: &mut Desk<J, Rendezvous, EntryKeep>,
 ) -> Result<bool, StepFault> {
     desk.begin(rt, 0)?;
     submit_text(rt, alloc, desk, 1, b"$c a $.")?;

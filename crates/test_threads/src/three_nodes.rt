@@ -6,7 +6,7 @@ use bytes::Bytes;
 use cluster::MemoryKeep;
 use library::{Entry, Submission, Verdict};
 use net::StepFault;
-use nodes::{Cluster, ClusterSetup, Desk, Weather, start};
+use nodes::{Cluster, ClusterSetup, Desk, Naming, Opened, Weather, start};
 use std::alloc::{AllocError, Global};
 use std::sync::{Arc, Wait};
 use std::thread;
@@ -30,16 +30,19 @@ pub fn text_entry(alloc: Global, serial: u64, text: &[u8]) -> Result<Entry, Allo
 
 /// Starts three nodes with keeps in memory, each with two workers to check proofs.
 pub fn start_three_nodes<
+    J: Naming + Send + Sync + Drop + 'static,
     G: Gate + Send + Sync + Drop + 'static,
     W: Weather + Send + Drop + 'static,
     R: Threads + Wait + Copy + Send + Sync + Drop + 'static,
 >(
     rt: &R,
     alloc: Global,
+    opened: Opened,
     weights: Weights,
     gate: Arc<G>,
     weathers: Vec<W>,
-) -> Result<Cluster<G, EntryKeep>, StepFault>
+) -> Result<Cluster<J, G, EntryKeep>, StepFault>
+    requires opened { opened ≡ J.book }
     requires weights { length weights ≡ 3 }
     requires weathers { length weathers.items ≡ 3 }
 {
@@ -56,33 +59,36 @@ pub fn start_three_nodes<
         work_limit: None,
         workers: PoolSize::new(2),
     };
-    start(rt, alloc, &setup, gate, weathers, keeps)
+    start(rt, alloc, opened, &setup, gate, weathers, keeps)
 }
 
 /// Starts three nodes with these weathers and an open gate.
 pub fn start_three_nodes_with_open_gate<
+    J: Naming + Send + Sync + Drop + 'static,
     W: Weather + Send + Drop + 'static,
     R: Threads + Wait + Copy + Send + Sync + Drop + 'static,
 >(
     rt: &R,
     alloc: Global,
+    opened: Opened,
     weights: Weights,
     weathers: Vec<W>,
-) -> Result<Cluster<OpenGate, EntryKeep>, StepFault>
+) -> Result<Cluster<J, OpenGate, EntryKeep>, StepFault>
+    requires opened { opened ≡ J.book }
     requires weights { length weights ≡ 3 }
     requires weathers { length weathers.items ≡ 3 }
 {
     let Ok(gate) = Arc::new(alloc, OpenGate) else {
         return Err(StepFault::Memory);
     };
-    start_three_nodes(rt, alloc, weights, gate, weathers)
+    start_three_nodes(rt, alloc, opened, weights, gate, weathers)
 }
 
 /// Submits the text at node 0.
-pub fn submit_text<G: Gate, R: Wait>(
+pub fn submit_text<J: Naming, G: Gate, R: Wait>(
     rt: &R,
     alloc: Global,
-    desk: &Desk<G, EntryKeep>,
+    desk: &mut Desk<J, G, EntryKeep>,
     serial: u64,
     text: &[u8],
 ) -> Result<(), StepFault> {
@@ -103,9 +109,9 @@ pub fn same_weathers<W: Weather + Copy>(alloc: Global, weather: W) -> Result<Vec
 
 /// Returns the verdict at node `k` on the text of author 7 with that serial number, or `None` if it
 /// is not known after `polls` polls, a millisecond apart.
-pub fn polled_verdict<G: Gate, R: Wait + Clock>(
+pub fn polled_verdict<J: Naming, G: Gate, R: Wait + Clock>(
     rt: &R,
-    desk: &Desk<G, EntryKeep>,
+    desk: &mut Desk<J, G, EntryKeep>,
     k: u8,
     serial: u64,
     polls: u32,
@@ -124,9 +130,9 @@ pub fn polled_verdict<G: Gate, R: Wait + Clock>(
 pub const MAX_POLLS: u32 = 20_000;
 
 /// Returns whether each node adds the text with that serial number within `MAX_POLLS` polls.
-pub fn is_added_by_all<G: Gate, R: Wait + Clock>(
+pub fn is_added_by_all<J: Naming, G: Gate, R: Wait + Clock>(
     rt: &R,
-    desk: &Desk<G, EntryKeep>,
+    desk: &mut Desk<J, G, EntryKeep>,
     serial: u64,
 ) -> Result<bool, StepFault> {
     for k in [0, 1, 2] {

@@ -8,8 +8,9 @@ use crate::three_nodes::{
 };
 use library::{Entry, Library, Verdict};
 use net::StepFault;
-use nodes::{Cluster, Desk, Fate, Weather};
+use nodes::{Cluster, Desk, Fate, Naming, Opened, Weather};
 use std::alloc::{AllocError, Global};
+use std::marker::Brand;
 use std::sync::atomic::{AtomicU8, Ordering};
 use std::sync::{Arc, Wait};
 use std::thread;
@@ -52,17 +53,19 @@ const TEXTS: [(u64, &[u8]); 4] = [
 
 #[test]
 fn served_by_all(rt: HostRuntime) {
-    assert!(rt; nodes_answer_alike(&rt, rt.alloc()) == Ok(true));
+    assert!(rt; nodes_answer_alike::<Brand, _>(&rt, rt.alloc(), Opened::new()) == Ok(true));
 }
 
 /// Returns whether each node answers like one library to which the texts are applied in order, node
 /// 2 also after a restart.
-fn nodes_answer_alike<R: Threads + Wait + Clock + Copy + Send + Sync + Drop + 'static>(
-    rt: &R,
-    alloc: Global,
-) -> Result<bool, StepFault> {
+fn nodes_answer_alike<
+    J: Naming + Send + Sync + Drop + 'static,
+    R: Threads + Wait + Clock + Copy + Send + Sync + Drop + 'static,
+>(rt: &R, alloc: Global, opened: Opened) -> Result<bool, StepFault>
+    requires { opened ≡ J.book }
+{
     let mut library = Library::new(alloc, None);
-    let served = nodes_answer_like_filled(rt, alloc, &mut library);
+    let served = nodes_answer_like_filled::<J, R>(rt, alloc, opened, &mut library);
     // An explicit `drop` is proved once for each type; a drop at the end of the scope would be
     // proved here.
     drop(library);
@@ -71,12 +74,13 @@ fn nodes_answer_alike<R: Threads + Wait + Clock + Copy + Send + Sync + Drop + 's
 
 /// Applies the texts to this new library, and returns whether each of three nodes then answers like
 /// it.
-fn nodes_answer_like_filled<R: Threads + Wait + Clock + Copy + Send + Sync + Drop + 'static>(
-    rt: &R,
-    alloc: Global,
-    library: &mut Library,
-) -> Result<bool, StepFault> {
-    Ok(apply_all(alloc, library)? && nodes_answer_like(rt, alloc, library)?)
+fn nodes_answer_like_filled<
+    J: Naming + Send + Sync + Drop + 'static,
+    R: Threads + Wait + Clock + Copy + Send + Sync + Drop + 'static,
+>(rt: &R, alloc: Global, opened: Opened, library: &mut Library) -> Result<bool, StepFault>
+    requires { opened ≡ J.book }
+{
+    Ok(apply_all(alloc, library)? && nodes_answer_like::<J, R>(rt, alloc, opened, library)?)
 }
 
 /// Applies the texts to the library in order. Returns whether it has three statements then.
@@ -95,21 +99,28 @@ fn apply_one(library: &mut Library, entry: &Entry) -> Result<(), AllocError> {
 
 /// Returns whether each of three new nodes, at which the texts are submitted, answers like that
 /// library.
-fn nodes_answer_like<R: Threads + Wait + Clock + Copy + Send + Sync + Drop + 'static>(
-    rt: &R,
-    alloc: Global,
-    library: &Library,
-) -> Result<bool, StepFault> {
+fn nodes_answer_like<
+    J: Naming + Send + Sync + Drop + 'static,
+    R: Threads + Wait + Clock + Copy + Send + Sync + Drop + 'static,
+>(rt: &R, alloc: Global, opened: Opened, library: &Library) -> Result<bool, StepFault>
+    requires { opened ≡ J.book }
+{
     let weathers = same_weathers(alloc, CyclingWeather(0))?;
-    let mut cluster = start_three_nodes_with_open_gate(rt, alloc, Weights::equal(3), weathers)?;
+    let mut cluster: Cluster<J, OpenGate, EntryKeep> = start_three_nodes_with_open_gate(
+        rt,
+        alloc,
+        opened,
+        Weights::equal(3),
+        weathers,
+    )?;
     answers_and_stops(rt, alloc, &mut cluster, library)
 }
 
 /// Returns whether the nodes of this cluster answer like the library, and stops the cluster.
-fn answers_and_stops<R: Threads + Wait + Clock>(
+fn answers_and_stops<J: Naming, R: Threads + Wait + Clock>(
     rt: &R,
     alloc: Global,
-    cluster: &mut Cluster<OpenGate, EntryKeep>,
+    cluster: &mut Cluster<J, OpenGate, EntryKeep>,
     library: &Library,
 ) -> Result<bool, StepFault> {
     let served = cluster_answers_like(rt, alloc, cluster, library);
@@ -118,22 +129,22 @@ fn answers_and_stops<R: Threads + Wait + Clock>(
 }
 
 /// Returns whether the nodes of this cluster answer like the library.
-fn cluster_answers_like<R: Wait + Clock>(
+fn cluster_answers_like<J: Naming, R: Wait + Clock>(
     rt: &R,
     alloc: Global,
-    cluster: &Cluster<OpenGate, EntryKeep>,
+    cluster: &Cluster<J, OpenGate, EntryKeep>,
     library: &Library,
 ) -> Result<bool, StepFault> {
-    let desk = cluster.desk()?;
-    desk_answers_like(rt, alloc, &desk, library)
+    let mut desk = cluster.desk()?;
+    desk_answers_like(rt, alloc, &mut desk, library)
 }
 
 /// Submits the texts at the desk. Returns whether no node lists an assertion before, and each then
 /// answers like the library, node 2 also after a restart.
-fn desk_answers_like<R: Wait + Clock>(
+fn desk_answers_like<J: Naming, R: Wait + Clock>(
     rt: &R,
     alloc: Global,
-    desk: &Desk<OpenGate, EntryKeep>,
+    desk: &mut Desk<J, OpenGate, EntryKeep>,
     library: &Library,
 ) -> Result<bool, StepFault> {
     if !lists_nothing(rt, desk)? {
@@ -150,7 +161,10 @@ fn desk_answers_like<R: Wait + Clock>(
 }
 
 /// Returns whether each node lists no assertion.
-fn lists_nothing<R: Wait>(rt: &R, desk: &Desk<OpenGate, EntryKeep>) -> Result<bool, StepFault> {
+fn lists_nothing<J: Naming, R: Wait>(
+    rt: &R,
+    desk: &mut Desk<J, OpenGate, EntryKeep>,
+) -> Result<bool, StepFault> {
     for k in [0, 1, 2] {
         if !desk.list(rt, k)?.is_empty() {
             return Ok(false);
@@ -160,10 +174,10 @@ fn lists_nothing<R: Wait>(rt: &R, desk: &Desk<OpenGate, EntryKeep>) -> Result<bo
 }
 
 /// Begins a ballot at node 0, and submits the texts there.
-fn submit_all<G: Gate, R: Wait>(
+fn submit_all<J: Naming, G: Gate, R: Wait>(
     rt: &R,
     alloc: Global,
-    desk: &Desk<G, EntryKeep>,
+    desk: &mut Desk<J, G, EntryKeep>,
 ) -> Result<(), StepFault> {
     desk.begin(rt, 0)?;
     for (serial, text) in TEXTS {
@@ -173,9 +187,9 @@ fn submit_all<G: Gate, R: Wait>(
 }
 
 /// Returns whether node `k` has the verdicts and lists the assertions of that library.
-fn node_answers_like<G: Gate, R: Wait + Clock>(
+fn node_answers_like<J: Naming, G: Gate, R: Wait + Clock>(
     rt: &R,
-    desk: &Desk<G, EntryKeep>,
+    desk: &mut Desk<J, G, EntryKeep>,
     k: u8,
     library: &Library,
 ) -> Result<bool, StepFault> {
@@ -225,16 +239,18 @@ impl Weather for SettableWeather {
 
 #[test]
 fn a_filled_gap_is_applied(rt: HostRuntime) {
-    assert!(rt; fills_its_gap(&rt, rt.alloc()) == Ok(true));
+    assert!(rt; fills_its_gap::<Brand, _>(&rt, rt.alloc(), Opened::new()) == Ok(true));
 }
 
 /// Returns whether node 2 applies all of six texts. The packets of the first do not reach it, and
 /// while it learns the next four, its requests for the first are lost. When it learns the sixth, it
 /// asks again, and the answer has all that it lacks.
-fn fills_its_gap<R: Threads + Wait + Clock + Copy + Send + Sync + Drop + 'static>(
-    rt: &R,
-    alloc: Global,
-) -> Result<bool, StepFault> {
+fn fills_its_gap<
+    J: Naming + Send + Sync + Drop + 'static,
+    R: Threads + Wait + Clock + Copy + Send + Sync + Drop + 'static,
+>(rt: &R, alloc: Global, opened: Opened) -> Result<bool, StepFault>
+    requires { opened ≡ J.book }
+{
     let (Ok(first_two_setting), Ok(third_setting)) = (
         Arc::new(alloc, AtomicU8::new(PASS)),
         Arc::new(alloc, AtomicU8::new(LOSE)),
@@ -242,15 +258,21 @@ fn fills_its_gap<R: Threads + Wait + Clock + Copy + Send + Sync + Drop + 'static
         return Err(StepFault::Memory);
     };
     let weathers = settable_weathers(alloc, &first_two_setting, &third_setting)?;
-    let mut cluster = start_three_nodes_with_open_gate(rt, alloc, Weights::equal(3), weathers)?;
+    let mut cluster: Cluster<J, OpenGate, EntryKeep> = start_three_nodes_with_open_gate(
+        rt,
+        alloc,
+        opened,
+        Weights::equal(3),
+        weathers,
+    )?;
     applies_and_stops(rt, alloc, &mut cluster, &first_two_setting, &third_setting)
 }
 
 /// Returns the same for the nodes of this cluster, which is stopped afterwards.
-fn applies_and_stops<R: Threads + Wait + Clock>(
+fn applies_and_stops<J: Naming, R: Threads + Wait + Clock>(
     rt: &R,
     alloc: Global,
-    cluster: &mut Cluster<OpenGate, EntryKeep>,
+    cluster: &mut Cluster<J, OpenGate, EntryKeep>,
     first_two_setting: &AtomicU8,
     third_setting: &AtomicU8,
 ) -> Result<bool, StepFault> {
@@ -284,22 +306,22 @@ fn weather_of(setting: &Arc<AtomicU8>) -> Result<SettableWeather, AllocError> {
 }
 
 /// Returns whether node 2 of the cluster applies all texts.
-fn applies_all<R: Wait + Clock>(
+fn applies_all<J: Naming, R: Wait + Clock>(
     rt: &R,
     alloc: Global,
-    cluster: &Cluster<OpenGate, EntryKeep>,
+    cluster: &Cluster<J, OpenGate, EntryKeep>,
     first_two_setting: &AtomicU8,
     third_setting: &AtomicU8,
 ) -> Result<bool, StepFault> {
-    let desk = cluster.desk()?;
-    applies_at(rt, alloc, &desk, first_two_setting, third_setting)
+    let mut desk = cluster.desk()?;
+    applies_at(rt, alloc, &mut desk, first_two_setting, third_setting)
 }
 
 /// Returns the same, with a desk of the cluster.
-fn applies_at<R: Wait + Clock>(
+fn applies_at<J: Naming, R: Wait + Clock>(
     rt: &R,
     alloc: Global,
-    desk: &Desk<OpenGate, EntryKeep>,
+    desk: &mut Desk<J, OpenGate, EntryKeep>,
     first_two_setting: &AtomicU8,
     third_setting: &AtomicU8,
 ) -> Result<bool, StepFault> {
@@ -326,10 +348,10 @@ const TRANSIT_MILLIS: u64 = 100;
 /// Submits a text at node 0 and waits until nodes 0 and 1 have decided it; then waits
 /// `TRANSIT_MILLIS` for the hints on their way to node 2, which its weather loses or delays.
 /// Returns whether nodes 0 and 1 have added the text.
-fn submit_and_wait<R: Wait + Clock>(
+fn submit_and_wait<J: Naming, R: Wait + Clock>(
     rt: &R,
     alloc: Global,
-    desk: &Desk<OpenGate, EntryKeep>,
+    desk: &mut Desk<J, OpenGate, EntryKeep>,
     serial: u64,
 ) -> Result<bool, StepFault> {
     submit_text(rt, alloc, desk, serial, b"")?;

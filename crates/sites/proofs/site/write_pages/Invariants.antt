@@ -3,5 +3,5 @@ use Rattle.sites.proofs.site.write_pages.Given as goal
 
 abbrev pub invariant-loop-index : goal.invariant-loop-index
 invariant-loop-index g l =
-    WritesPages g.S.Folder.writes (IsPage l.site.library.now.replica.statements l.site.is_unproved.now l.site.text.now)
-    l.fn.folder (page_files 1 (take l.index l.site.library.now.replica.statements)) l.folder
+    WritesPages g.S.Folder.writes (IsPage l.fn.site.library.now.replica.statements l.fn.site.is_unproved.now l.fn.site.text.now)
+    l.fn.folder (page_files 1 (take l.index l.fn.site.library.now.replica.statements)) l.folder

@@ -1,14 +1,31 @@
-use Rattle.nodes.proofs.Words.{◌≡◌, ℕ, Ok, Err, inr, subst, Restart, IsPlayed, IsRestartFault}
-use Rattle.nodes.proofs.DeskLemmas.{handed}
+use Rattle.std.proofs.Common.{true, sym, subst}
+use Rattle.net.specs.declared.event.Event.TheVariants.{Restart}
+use Rattle.nodes.specs.Words.{IsPrefixOf}
+use Rattle.nodes.specs.Moments.{IsStoppedAt}
+use Rattle.nodes.specs.Desk.{DeskView, IsPlayFault}
+use Rattle.nodes.proofs.PrefixLemmas.{prefix_trans}
+use Rattle.nodes.proofs.DeskLemmas.{handed, happens_before, not_stopped, play_fault}
 use Rattle.nodes.proofs.desk.Desk.restart.Goals as goal
+
+pub returns-in_default-clause-stopped : goal.returns-in_default-clause-stopped
+returns-in_default-clause-stopped g c was = absurd (not_stopped c.self.inside.front c.is_stopped.new.front c.in_ok-is_stopped.field-0 c.is_stopped.ensures.seen c.if-branch.false c.in_ok-is_stopped.ensures.stopped (subst (λ (v : DeskView). IsStoppedAt v.seen true) (sym c.self.view_is) was))
+
+pub returns-in_err-hints-clause-seen : goal.returns-in_err-hints-clause-seen
+returns-in_err-hints-clause-seen g c = prefix_trans c.args.self.now.seen c.is_stopped.new.front c.restart.new.front (subst (λ (v : DeskView). IsPrefixOf v.seen c.is_stopped.new.front) c.self.view_is c.is_stopped.ensures.seen) c.in_err-hints.ensures.seen
 
 pub returns-in_err-hints-clause-refused : goal.returns-in_err-hints-clause-refused
 returns-in_err-hints-clause-refused g c _ =
-    let at : c.deref_mut-3.result.now.cell.node ≡ c.args.k = cc in
-    let fault = subst (λ (j : ℕ). IsPlayed (Restart j) (Err c.in_err-hints.field-0.0)) at record { old = _; new = _; plays = c.in_err-hints.ensures } in
-    handed (IsRestartFault c.args.k) c.from_residual.result c.in_err-hints.field-0.0 c.from_residual.ensures.1 (inr (inr fault))
+    handed (IsPlayFault c.args.self.now.seen c.restart.new.front (Restart c.args.k)) c.from_residual-in_err-hints.result c.in_err-hints.field-0.0 c.from_residual-in_err-hints.ensures.1
+    (play_fault c.args.self.now.seen c.is_stopped.new.front c.restart.new.front (Restart c.args.k) c.in_err-hints.field-0.0 (subst (λ (v : DeskView). IsPrefixOf v.seen c.is_stopped.new.front) c.self.view_is c.is_stopped.ensures.seen) c.in_err-hints.ensures.refused)
+
+pub returns-in_err-hints-clause-stopped : goal.returns-in_err-hints-clause-stopped
+returns-in_err-hints-clause-stopped g c was = absurd (not_stopped c.self.inside.front c.is_stopped.new.front c.in_ok-is_stopped.field-0 c.is_stopped.ensures.seen c.if-branch.false c.in_ok-is_stopped.ensures.stopped (subst (λ (v : DeskView). IsStoppedAt v.seen true) (sym c.self.view_is) was))
+
+pub returns-clause-seen : goal.returns-clause-seen
+returns-clause-seen g c = prefix_trans c.args.self.now.seen c.is_stopped.new.front c.restart.new.front (subst (λ (v : DeskView). IsPrefixOf v.seen c.is_stopped.new.front) c.self.view_is c.is_stopped.ensures.seen) c.in_ok-hints.ensures.seen
 
 pub returns-clause-restarted : goal.returns-clause-restarted
-returns-clause-restarted g c =
-    let at : c.deref_mut-3.result.now.cell.node ≡ c.args.k = cc in
-    subst (λ (j : ℕ). (count : ℕ) × IsPlayed (Restart j) (Ok count)) at (c.in_ok-hints.ensures.0, record { old = _; new = _; plays = c.in_ok-hints.ensures.1 })
+returns-clause-restarted g c = happens_before c.args.self.now.seen c.is_stopped.new.front c.restart.new.front (Restart c.args.k) (subst (λ (v : DeskView). IsPrefixOf v.seen c.is_stopped.new.front) c.self.view_is c.is_stopped.ensures.seen) c.is_stopped.ensures.run c.in_ok-hints.ensures.played
+
+pub returns-clause-stopped : goal.returns-clause-stopped
+returns-clause-stopped g c was = absurd (not_stopped c.self.inside.front c.is_stopped.new.front c.in_ok-is_stopped.field-0 c.is_stopped.ensures.seen c.if-branch.false c.in_ok-is_stopped.ensures.stopped (subst (λ (v : DeskView). IsStoppedAt v.seen true) (sym c.self.view_is) was))
