@@ -2,7 +2,7 @@
 
 use crate::label_order::{CitedLabel, listed_positions};
 use crate::labels::{label_at, position_at};
-use crate::position_numbers::{PositionNumbers, cited_positions};
+use crate::position_numbers::{CitedPositions, PositionNumbers};
 use crate::request::TextRequest;
 use crate::walk::{Part, Walk};
 use mm_read::Stmt;
@@ -32,12 +32,12 @@ pub(crate) fn compressed_code(
     mandatory: &[u32],
 ) -> Result<CompressedCode, AllocError> {
     let parts = merged_parts(alloc, table)?;
-    let positions = cited_positions(alloc, table)?;
-    let mut numbers = PositionNumbers::new(alloc, &positions)?;
+    let cited = CitedPositions::new(alloc, table)?;
+    let mut numbers = PositionNumbers::new(alloc, &cited)?;
     for (index, position) in mandatory.iter().enumerate() {
         numbers.set(*position as usize, index.saturating_add(1));
     }
-    let labels = cited_labels(alloc, request, table, &positions, &numbers, &parts)?;
+    let labels = cited_labels(alloc, request, table, &cited, &numbers, &parts)?;
     let listed = listed_positions(alloc, &labels, mandatory.len())?;
     for (index, position) in listed.iter().enumerate() {
         numbers.set(
@@ -60,13 +60,13 @@ fn letters_of(
     label_count: usize,
 ) -> Result<Vec<u8>, AllocError> {
     let repeated = repeated_steps(alloc, table.len(), parts)?;
-    let mut letters = Vec::new(alloc);
+    let mut letters = Vec::with_capacity(alloc, parts.len())?;
     let mut marks = vec![in alloc; 0; table.len()]?;
     let mut mark_count = 0usize;
     for part in parts {
         match *part {
             Part::Step(place) => {
-                push_number(&mut letters, numbers.get(position_at(table, place)))?;
+                push_number(&mut letters, numbers.of_step(place))?;
                 if is_set(&repeated, place) {
                     letters.push(b'Z')?;
                     mark_count = mark_count.saturating_add(1);
@@ -85,8 +85,9 @@ fn letters_of(
 /// Returns the parts of a proof in which equal steps that take others are written once.
 fn merged_parts(alloc: Global, table: &ProofTable) -> Result<Vec<Part>, AllocError> {
     let mut walk = Walk::new(alloc, table, true)?;
-    let mut parts = Vec::new(alloc);
-    for _ in 0..part_limit(table) {
+    let limit = part_limit(table);
+    let mut parts = Vec::with_capacity(alloc, limit)?;
+    for _ in 0..limit {
         match walk.next()? {
             Some(part) => parts.push(part)?,
             None => break,
@@ -124,25 +125,25 @@ fn cited_labels(
     alloc: Global,
     request: &TextRequest<'_>,
     table: &ProofTable,
-    positions: &[usize],
+    cited: &CitedPositions,
     mandatory: &PositionNumbers<'_>,
     parts: &[Part],
 ) -> Result<Vec<CitedLabel>, AllocError> {
     let mut labels = Vec::new(alloc);
-    let mut ordinals = PositionNumbers::new(alloc, positions)?;
+    let mut ordinals = PositionNumbers::new(alloc, cited)?;
     for part in parts {
         let Part::Step(place) = *part else {
             continue;
         };
-        let position = position_at(table, place);
-        if mandatory.get(position) != 0 {
+        if mandatory.of_step(place) != 0 {
             continue;
         }
-        if ordinals.get(position) == 0 {
+        if ordinals.of_step(place) == 0 {
+            let position = position_at(table, place);
             labels.push(cited_label(request, position))?;
             ordinals.set(position, labels.len());
         }
-        count_citation(&mut labels, ordinals.get(position));
+        count_citation(&mut labels, ordinals.of_step(place));
     }
     Ok(labels)
 }

@@ -150,8 +150,8 @@ impl Listing {
         Ok(())
     }
 
-    /// Appends those of the first labels that are chosen, and returns the others and the labels after
-    /// the first ones.
+    /// Appends those of the first labels that are chosen, and returns the others, with the labels
+    /// after the first ones.
     fn push_chosen(
         &mut self,
         labels: &[CitedLabel],

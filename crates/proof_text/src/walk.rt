@@ -14,11 +14,11 @@ pub(crate) enum Part {
 
 /// A step whose citation is not written yet.
 #[derive(Clone, Copy, Drop)]
-struct BegunStep {
+struct BegunStep<'a> {
     /// Its place in the table.
     place: usize,
-    /// How many of the steps that it takes are written or begun.
-    passed: usize,
+    /// The places of the steps that it takes and that are neither written nor begun.
+    left: &'a [usize],
 }
 
 /// A walk from the last step of a table through all that it takes.
@@ -26,8 +26,8 @@ struct BegunStep {
 pub(crate) struct Walk<'a> {
     table: &'a ProofTable,
     /// The steps that were begun, each one taken by the one before it.
-    begun: Vec<BegunStep>,
-    /// For each step whether its citation was written.
+    begun: Vec<BegunStep<'a>>,
+    /// For each step that takes others whether its citation was written.
     written: Vec<bool>,
     /// Whether a step that takes others is written only once.
     merges: bool,
@@ -45,7 +45,8 @@ impl<'a> Walk<'a> {
     ) -> Result<Walk<'a>, AllocError> {
         let mut begun = Vec::new(alloc);
         if let Some(place) = table.len().checked_sub(1) {
-            begun.push(BegunStep { place, passed: 0 })?;
+            let left = steps_taken(table, place);
+            begun.push(BegunStep { place, left })?;
         }
         Ok(Walk {
             table,
@@ -64,18 +65,22 @@ impl<'a> Walk<'a> {
             let Some(step) = self.begun.pop() else {
                 return Ok(None);
             };
-            let Some(place) = taken_at(self.table, step) else {
+            let Some((&place, left)) = step.left.split_first() else {
                 self.record_written(step.place);
                 return Ok(Some(Part::Step(step.place)));
             };
             self.begun.push(BegunStep {
                 place: step.place,
-                passed: step.passed.saturating_add(1),
+                left,
             })?;
-            if self.is_repeat(place) {
+            let left = steps_taken(self.table, place);
+            if left.is_empty() {
+                return Ok(Some(Part::Step(place)));
+            }
+            if self.merges && self.is_written(place) {
                 return Ok(Some(Part::Repeat(place)));
             }
-            self.begun.push(BegunStep { place, passed: 0 })?;
+            self.begun.push(BegunStep { place, left })?;
         }
         Ok(None)
     }
@@ -87,18 +92,10 @@ impl<'a> Walk<'a> {
         }
     }
 
-    /// Returns whether a step that is taken is repeated.
-    fn is_repeat(&self, place: usize) -> bool {
-        self.merges
-            && place < self.written.len()
-            && self.written[place]
-            && !steps_taken(self.table, place).is_empty()
+    /// Returns whether the citation of a step that takes others was written.
+    fn is_written(&self, place: usize) -> bool {
+        place < self.written.len() && self.written[place]
     }
-}
-
-/// Returns the place of the next step that a begun step takes, or `None` after the last.
-fn taken_at(table: &ProofTable, step: BegunStep) -> Option<usize> {
-    steps_taken(table, step.place).get(step.passed).copied()
 }
 
 /// Returns the places of the steps that the step at a place takes.
