@@ -81,7 +81,6 @@ fn parse_row_line(alloc: Global, row: &mut Row, line: &str) -> Result<(), RowLin
         "reads" if text == "none" => set_mode(row, StreamMode::NoReads, text, "none"),
         "reads" => set_mode(row, StreamMode::FailingReads, text, "fail"),
         "writes" => set_mode(row, StreamMode::FailingWrites, text, "fail"),
-        "!" => add_stderr_line(alloc, row, text),
         "!~" => set_stderr_beginning(alloc, row, text),
         "</" => add_ending(alloc, row, text, "\\"),
         "</>" => add_ending_with_answer(alloc, row, text),
@@ -140,14 +139,19 @@ fn set_mode(
     Ok(())
 }
 
-/// Appends a line to the expected standard error.
-fn add_stderr_line(alloc: Global, row: &mut Row, text: &str) -> Result<(), RowLineFault> {
+/// Appends lines to the expected standard error.
+fn add_stderr_lines(
+    alloc: Global,
+    row: &mut Row,
+    text: &str,
+    times: u64,
+) -> Result<(), RowLineFault> {
     match &mut row.stderr {
-        ExpectedStderr::Exactly(lines) => push_line(lines, text, 0),
+        ExpectedStderr::Exactly(lines) => push_lines(lines, text, times),
         ExpectedStderr::Beginning(_) => Err(RowLineFault::NotALine),
         ExpectedStderr::Unspecified => {
             let mut lines = Vec::new(alloc);
-            push_line(&mut lines, text, 0)?;
+            push_lines(&mut lines, text, times)?;
             row.stderr = ExpectedStderr::Exactly(lines);
             Ok(())
         }
@@ -178,8 +182,8 @@ fn add_ending_with_answer(alloc: Global, row: &mut Row, text: &str) -> Result<()
     add_ending(alloc, row, text, answer)
 }
 
-/// Appends lines to the input, the output or both. The keyword may end in `*` and a number, which
-/// says how many lines.
+/// Appends lines to the input, the output or both, or to the standard error. The keyword may end in
+/// `*` and a number, which says how many lines.
 fn add_lines(alloc: Global, row: &mut Row, keyword: &str, text: &str) -> Result<(), RowLineFault> {
     let (keyword, times) = match keyword.split_once('*') {
         Some((keyword, times)) => (
@@ -191,6 +195,7 @@ fn add_lines(alloc: Global, row: &mut Row, keyword: &str, text: &str) -> Result<
     match keyword {
         "<" => push_lines(&mut row.input, text, times),
         ">" => push_lines(&mut row.output, text, times),
+        "!" => add_stderr_lines(alloc, row, text, times),
         "<>" => {
             let (text, answer) = text.rsplit_once(" => ").ok_or(RowLineFault::NotALine)?;
             push_lines(&mut row.input, text, times)?;
