@@ -28,6 +28,6 @@ returns c =
     let place : LineAndColumn = record { line = at; column = 1 } in
     let words = option_map (λ (d : Bor (List ℕ)). d.now) c.args.description in
     let text = c.in_ok-push_block.ensures
-        ∙ (ap (λ l. l ++ block_text T at s place words) c.new-block.ensures.items
-        ∙ ap (λ U. block_text U at s place words) c.statements-statements.ensures.statements) in
+    ∙ (ap (λ l. l ++ block_text T at s place words) c.new-block.ensures.items
+    ∙ ap (λ U. block_text U at s place words) c.statements-statements.ensures.statements) in
     (at, s, carried, stands, text)
