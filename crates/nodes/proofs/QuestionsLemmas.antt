@@ -21,7 +21,7 @@ pushed old new k (s ∷ statuses) status are is =
     let same : k + suc (length statuses) ≡ suc k + length statuses = omega arith in
     (are.0, pushed old new (suc k) statuses status are.1 (subst (λ (j : ℕ). WasNodeStatus old new j status) same is))
 
--- the same of all nodes up to node k
+-- this for all nodes up to node k
 pub more_statuses : (old mid new : List Moment) (k : ℕ) (before after : List NodeStatus) (status : NodeStatus) → IsPrefixOf old mid → IsPrefixOf mid new → after ≡ before ++ status ∷ [] → length before ≡ k
     → AreNodeStatuses old mid 0 before → IsNodeStatus new k status → AreNodeStatuses old new 0 after
 more_statuses old mid new k before after status first pre added count are is =

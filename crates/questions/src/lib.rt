@@ -11,7 +11,7 @@
 //! `searches` (searches for assertions), `shown` (the answers to `show`: statements as
 //! blocks of lines), `works` (how much work a database is), `pages` (a site), `unproved_proofs`
 //! (questions that are answered even if some `$p` are not proved, among them `check --all`, which
-//! checks every `$p` by itself), `all_faults` (the same of a text with other faults), `assumed`
+//! checks every `$p` by itself), `all_faults` (so too a text with other faults), `assumed`
 //! (each `$p` that is not proved taken as a `$a`), `refused_texts` and `refused_questions` (why
 //! there is no answer).
 #![tactic(auto)]

@@ -25,13 +25,13 @@ abbrev pub page_file_of_label : ℕ → Option Name → List (ℕ × List ℕ)
 page_file_of_label at None = []
 page_file_of_label at (Some label) = (at, file_name label at) ∷ []
 
--- the same of the statement at a position; none if it is not an assertion
+-- the file of the statement at a position; none if it is not an assertion
 abbrev pub page_file : ℕ → Stmt → List (ℕ × List ℕ)
 page_file at (Axiom label expr) = (at, file_name label at) ∷ []
 page_file at (Prove label expr proof) = (at, file_name label at) ∷ []
 page_file at s = []
 
--- the same of statements, the first of which is at the position `at`
+-- the files of statements, the first of which is at the position `at`
 abbrev pub page_files : ℕ → Database → List (ℕ × List ℕ)
 page_files at [] = []
 page_files at (s ∷ S) = page_file at s ++ page_files (suc at) S
